@@ -1,0 +1,17 @@
+//! The types that contracts speak of, and the definitions over them.
+#![tactic(auto)]
+
+pub mod conllu;
+pub mod doc;
+pub mod grammar;
+pub mod history;
+pub mod list;
+pub mod mention;
+pub mod object;
+pub mod path;
+pub mod pattern;
+pub mod rule;
+pub mod script;
+pub mod sentence;
+pub mod text;
+pub mod token;

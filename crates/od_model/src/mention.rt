@@ -1,0 +1,121 @@
+//! Mentions, and what a round gives.
+ghost use Rattle.std.specs.Prelude.{◌≡◌, ◌↔◌, IsTrue, length};
+
+use crate::list::List;
+use crate::text::{Copied, NoMemory, Text, copy_option, same_option};
+use std::alloc::Global;
+
+/// The tokens of a sentence from a start to an end that is not included, numbered from 0.
+#[derive(Clone, Copy, Debug, PartialEq, Eq)]
+pub struct Span {
+    pub start: u32,
+    pub end: u32,
+}
+
+/// A span with a label, as the state has it on a sentence.
+#[derive(Debug, Drop)]
+pub struct Labelled {
+    pub label: Text,
+    pub span: Span,
+}
+
+/// A named span within a mention: a capture, or an argument.
+#[derive(Debug, Drop)]
+pub struct Part {
+    pub name: Text,
+    pub label: Option<Text>,
+    pub start: u32,
+    pub end: u32,
+}
+
+/// What a rule found: documents, sentences and tokens are numbered from 0, the end is not included.
+#[derive(Debug, Drop)]
+pub struct Mention {
+    pub document: u32,
+    pub sentence: u32,
+    pub start: u32,
+    pub end: u32,
+    pub label: Text,
+    pub rule: Text,
+    pub parts: List<Part>,
+}
+
+/// What a round gives: the new mentions in their order, or why it is refused.
+#[derive(Debug, Drop)]
+pub enum RoundResult {
+    Found(List<Mention>),
+    Crowded {
+        rule: u32,
+        document: u32,
+        sentence: u32,
+        count: u64,
+    },
+    TooMany {
+        weight: u64,
+    },
+}
+
+impl Part {
+    /// Whether two parts agree in all fields.
+    pub fn same(&self, other: &Part) -> bool
+        ensures { IsTrue result ↔ (self.now ≡ other.now) }
+    {
+        self.start == other.start
+            && self.end == other.end
+            && self.name.same(&other.name)
+            && same_option(&self.label, &other.label)
+    }
+}
+
+impl Copied for Part {
+    fn copy(&self, alloc: Global) -> Result<Part, NoMemory> {
+        Ok(Part {
+            name: self.name.copy(alloc)?,
+            label: copy_option(alloc, &self.label)?,
+            start: self.start,
+            end: self.end,
+        })
+    }
+}
+
+/// Whether two rows of parts agree, part by part.
+pub fn same_parts(left: &[Part], right: &[Part]) -> bool
+    ensures { IsTrue result ↔ (left.now ≡ right.now) }
+{
+    match left {
+        [] => right.is_empty(),
+        [first, rest @ ..] => match right {
+            [] => false,
+            [other, others @ ..] => first.same(other) && same_parts(rest, others),
+        },
+    }
+}
+
+impl Mention {
+    /// Whether two mentions agree in all fields.
+    pub fn same(&self, other: &Mention) -> bool
+        ensures { IsTrue result ↔ (self.now ≡ other.now) }
+    {
+        self.document == other.document
+            && self.sentence == other.sentence
+            && self.start == other.start
+            && self.end == other.end
+            && self.label.same(&other.label)
+            && self.rule.same(&other.rule)
+            && same_parts(self.parts.get(), other.parts.get())
+    }
+}
+
+impl Copied for Mention {
+    fn copy(&self, alloc: Global) -> Result<Mention, NoMemory> {
+        Ok(Mention {
+            document: self.document,
+            sentence: self.sentence,
+            start: self.start,
+            end: self.end,
+            label: self.label.copy(alloc)?,
+            rule: self.rule.copy(alloc)?,
+            parts: self.parts.copy(alloc)?,
+        })
+    }
+}

@@ -1,0 +1,26 @@
+//! The one-thread object: the record that the definitions of commands and replies speak of.
+use crate::doc::Doc;
+use crate::grammar::GrammarKind;
+use crate::list::List;
+use crate::mention::Mention;
+use crate::text::Text;
+
+/// What one session is: its grammar's kind and text, the number of documents that it belongs to, the greatest number of rounds,
+/// the mentions that each finished round added, and the caller that holds it.
+#[derive(Debug, Drop)]
+pub struct SessionState {
+    pub name: Text,
+    pub kind: GrammarKind,
+    pub text: Text,
+    pub documents: u32,
+    pub limit: u32,
+    pub rounds: List<List<Mention>>,
+    pub holder: Option<u32>,
+}
+
+/// The committed documents and the sessions.
+#[derive(Debug, Drop)]
+pub struct OneThread {
+    pub docs: List<Doc>,
+    pub sessions: List<SessionState>,
+}

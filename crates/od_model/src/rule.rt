@@ -1,0 +1,67 @@
+//! Rules: a pattern, or an event with a trigger and arguments.
+use crate::list::List;
+use crate::path::Path;
+use crate::pattern::Surface;
+use crate::text::Text;
+
+/// A further part of a pattern: the path that leads to it, and its surface.
+#[derive(Debug, Drop)]
+pub struct HopPart {
+    pub path: Path,
+    pub surface: Surface,
+}
+
+/// A surface pattern, then any number of parts that dependency paths lead to.
+#[derive(Debug, Drop)]
+pub struct Hop {
+    pub first: Surface,
+    pub rest: List<HopPart>,
+}
+
+/// The quantifier of an argument.
+#[derive(Clone, Copy, Debug, PartialEq, Eq)]
+pub enum Many {
+    One,
+    Optional,
+    All,
+    AllOne,
+}
+
+/// An argument of an event rule.
+#[derive(Debug, Drop)]
+pub struct Argument {
+    pub name: Text,
+    pub label: Option<Text>,
+    pub many: Many,
+    pub path: Path,
+}
+
+/// A trigger and its arguments.
+#[derive(Debug, Drop)]
+pub struct EventRule {
+    pub trigger: Surface,
+    pub arguments: List<Argument>,
+}
+
+/// What a rule looks for.
+#[derive(Debug, Drop)]
+pub enum Body {
+    Basic(Hop),
+    Event(EventRule),
+}
+
+/// The rounds, numbered from 1, in which a rule is run: from the first to the last, or without end.
+#[derive(Clone, Copy, Debug, PartialEq, Eq)]
+pub struct Priority {
+    pub first: u32,
+    pub last: Option<u32>,
+}
+
+/// A rule of a grammar.
+#[derive(Debug, Drop)]
+pub struct Rule {
+    pub name: Text,
+    pub label: Text,
+    pub priority: Priority,
+    pub body: Body,
+}
