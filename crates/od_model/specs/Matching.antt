@@ -1,0 +1,13 @@
+pub mod Texts
+pub mod Holds
+pub mod Choice
+pub mod First
+pub mod Derives
+pub mod Scan
+pub mod Reach
+pub mod Hops
+pub mod Candidates
+pub mod Events
+pub mod Mentions
+pub mod Rules
+pub mod Words
