@@ -1,4 +1,4 @@
 pub mod Phases
 pub mod Round
-pub mod Sameness
+pub mod Weight
 pub mod Sites

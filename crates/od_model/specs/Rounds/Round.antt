@@ -6,8 +6,9 @@ use Rattle.od_model.specs.declared.grammar.Grammar.{Grammar}
 use Rattle.od_model.specs.declared.mention.Mention.{Mention}
 use Rattle.od_model.specs.declared.mention.RoundResult.{RoundResult}
 use Rattle.od_model.specs.declared.mention.RoundResult.TheVariants.{Found, Crowded, TooMany}
-use Rattle.od_model.specs.Given.{Outcome, mentions, crowded, rule_mentions}
-use Rattle.od_model.specs.Rounds.Sameness.{is_among, different, weight, most_weight}
+use Rattle.od_model.specs.Matching.Mentions.{is_among, distinct}
+use Rattle.od_model.specs.Matching.Rules.{Outcome, mentions, crowded, rule_mentions}
+use Rattle.od_model.specs.Rounds.Weight.{weight, most_weight}
 use Rattle.od_model.specs.Rounds.Sites.{Site, sites, rules_in}
 
 -- what a round meets: a mention, or a rule and a sentence with too many
@@ -52,7 +53,7 @@ walk docs g r old = fold (walked old) (Found []) (items docs g r old)
 
 -- round r over the documents, against the mentions that are there; each of these counts once
 unfoldable pub round : List Doc → Grammar → ℕ → List Mention → RoundResult
-round docs g r old = walk docs g r (different old)
+round docs g r old = walk docs g r (distinct old)
 
 -- the mentions of all rounds
 abbrev pub joined : List (List Mention) → List Mention
