@@ -1,1 +1,5 @@
 pub mod Rules
+pub mod Unambiguous
+pub mod Preferred
+pub mod Derived
+pub mod Scans

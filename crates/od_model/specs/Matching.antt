@@ -11,3 +11,4 @@ pub mod Events
 pub mod Mentions
 pub mod Rules
 pub mod Words
+pub mod Laws

@@ -6,6 +6,7 @@ pub mod doc;
 pub mod grammar;
 pub mod history;
 pub mod list;
+pub mod matching_laws;
 pub mod mention;
 pub mod object;
 pub mod path;

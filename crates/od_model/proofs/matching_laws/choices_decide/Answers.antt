@@ -1,0 +1,12 @@
+use Rattle.od_model.proofs.Matching.Derived.{within}
+use Rattle.od_model.proofs.Matching.Scans.{same_choices, no_front}
+use Rattle.od_model.proofs.matching_laws.choices_decide.Goals as goal
+
+pub returns-clause-same : goal.returns-clause-same
+returns-clause-same c = same_choices
+
+pub returns-clause-front : goal.returns-clause-front
+returns-clause-front c = no_front
+
+pub returns-clause-within : goal.returns-clause-within
+returns-clause-within c = within

@@ -1,0 +1,34 @@
+-- The laws of derivations and scans.
+use Rattle.std.specs.Prelude.{◌≡◌, ℕ, ◌≤◌, List, [], ◌++◌}
+use Rattle.od_model.specs.Matching.Choice.{Capture}
+use Rattle.od_model.specs.Matching.Derives.{World, derives}
+use Rattle.od_model.specs.Matching.Scan.{IsBest, Match, Scans, world_in, scan_of}
+use Rattle.od_model.specs.declared.sentence.Sentence.{Sentence}
+use Rattle.od_model.specs.declared.mention.Labelled.{Labelled}
+use Rattle.od_model.specs.declared.pattern.Surface.{Surface}
+
+-- two derivations of a pattern from one place by the same choices have the same end and the same captures
+abbrev pub SameChoicesAgree : Type 0
+SameChoicesAgree =
+    (w : World) (p : Surface) (i j j' : ℕ) (c c' : List Capture) (t : List ℕ) → derives w p i j c t → derives w p i j' c' t → (j ≡ j') × (c ≡ c')
+
+-- no list of choices of a pattern at a place is a proper front of another's
+abbrev pub NoProperFront : Type 0
+NoProperFront =
+    (w : World) (p : Surface) (i j j' : ℕ) (c c' : List Capture) (t u : List ℕ) → derives w p i j c t → derives w p i j' c' (t ++ u) → u ≡ []
+
+-- a derivation takes no token outside the sentence
+abbrev pub StaysWithin : Type 0
+StaysWithin = (w : World) (p : Surface) (i j : ℕ) (c : List Capture) (t : List ℕ) → i ≤ w.length → derives w p i j c t → (i ≤ j) × (j ≤ w.length)
+
+-- at a place there is at most one best derivation
+abbrev pub OneBest : Type 0
+OneBest = (w : World) (p : Surface) (i j j' : ℕ) (c c' : List Capture) → IsBest w p i j c → IsBest w p i j' c' → (j ≡ j') × (c ≡ c')
+
+-- the list that is computed has the matches of the whole sentence
+abbrev pub ScanIsComputed : Type 0
+ScanIsComputed = (p : Surface) (s : Sentence) (labels : List Labelled) → Scans (world_in s labels) p 0 (scan_of p s labels)
+
+-- from a place on there is at most one list of matches
+abbrev pub OneScan : Type 0
+OneScan = (w : World) (p : Surface) (i : ℕ) (a b : List Match) → Scans w p i a → Scans w p i b → a ≡ b

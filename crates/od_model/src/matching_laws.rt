@@ -1,0 +1,22 @@
+//! The laws of derivations and scans, which hold of every pattern and every sentence.
+//!
+//! A law is what a function here ensures; the function itself does nothing.
+ghost use Rattle.od_model.specs.Matching.Laws.{SameChoicesAgree, NoProperFront, StaysWithin, OneBest, ScanIsComputed, OneScan};
+
+/// The choices of a derivation decide its end and its captures, and none goes on where another has ended.
+pub fn choices_decide()
+    ensures same { SameChoicesAgree }
+    ensures front { NoProperFront }
+    ensures within { StaysWithin }
+{}
+
+/// A pattern has at most one best derivation from a place.
+pub fn best_is_unique()
+    ensures { OneBest }
+{}
+
+/// A pattern has exactly one list of matches in a sentence, and it is the list that is computed.
+pub fn scan_is_computed()
+    ensures computed { ScanIsComputed }
+    ensures unique { OneScan }
+{}
