@@ -34,6 +34,7 @@ is_sentence p = nat_lt 0 (length p.0) && nat_le (length p.0) 2000 && ends_within
 abbrev pub is_document : ℕ → List Sentence → Bool
 is_document size ss = nat_lt 0 (length ss) && nat_le size (2 ^ 20) && nat_le (weight_of ss) size
 
+-- the tests say what each sentence and each document keeps
 pub Decides-nat_le : (a b : ℕ) → Decides (nat_le a b) (a ≤ b)
 Decides-nat_le a b = (leb-true a b, le-leb a b)
 

@@ -46,6 +46,7 @@ number_of text = if length text == 0 then None else (if slice_index text 0 == 48
 abbrev pub ReadsNumbers : Type 0
 ReadsNumbers = (text : List ℕ) (n : ℕ) → (number_of text ≡ Some n) ↔ ((text ≡ decimal n) × (n < 1000000))
 
+-- the number, where it is not 0
 abbrev pub at_least_one : Option ℕ → Option ℕ
 at_least_one None = None
 at_least_one (Some n) = if n == 0 then None else Some n
@@ -54,6 +55,7 @@ at_least_one (Some n) = if n == 0 then None else Some n
 abbrev pub word_id : List ℕ → Option ℕ
 word_id text = at_least_one (number_of text)
 
+-- whether both numbers are there and the first is not greater than the second
 abbrev pub are_in_order : Option ℕ → Option ℕ → Bool
 are_in_order (Some a) (Some b) = nat_le a b
 are_in_order a b = false
@@ -68,6 +70,7 @@ abbrev pub is_empty_node : Option (List ℕ × List ℕ) → Bool
 is_empty_node None = false
 is_empty_node (Some p) = is_some (number_of p.0) && is_some (word_id p.1)
 
+-- whether an ID is that of a range line or of an empty node
 abbrev pub is_range_or_empty_node : List ℕ → Bool
 is_range_or_empty_node text = is_range (split_once 45 text) || is_empty_node (split_once 46 text)
 

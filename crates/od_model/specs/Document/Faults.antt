@@ -10,6 +10,7 @@ use Rattle.od_model.specs.Document.Lines.{Line, without_mark, blocks_of}
 use Rattle.od_model.specs.Document.Columns.{Row, head_of}
 use Rattle.od_model.specs.Document.Words.{Content, no_word, word, wrong, content_of, WordLine, word_lines_of, head_number}
 
+-- a kind of fault at this line number
 abbrev pub fault_at : ℕ → Option ConlluKind → Option ConlluFault
 fault_at n kind = option_map (λ k. record { line = n; kind = k }) kind
 

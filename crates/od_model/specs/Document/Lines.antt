@@ -21,6 +21,7 @@ numbered n (text ∷ texts) = record { number = n; text = text } ∷ numbered (n
 abbrev pub lines_of : List ℕ → List Line
 lines_of text = numbered 1 (lines text)
 
+-- whether a line is empty
 abbrev pub is_blank : Line → Bool
 is_blank line = length line.text == 0
 

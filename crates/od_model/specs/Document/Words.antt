@@ -14,10 +14,12 @@ pub data Content : Type 0 where
   word : ℕ → Row → Content
   wrong : ConlluKind → Content
 
+-- what a row holds, by the number that its ID is
 abbrev pub content_by_id : Row → Option ℕ → Content
 content_by_id row (Some id) = word id row
 content_by_id row None = if is_range_or_empty_node row.id then no_word else wrong BadId
 
+-- what a line that is no comment holds, by its row
 abbrev pub content_by_columns : Option Row → Content
 content_by_columns None = wrong Columns
 content_by_columns (Some row) = content_by_id row (word_id row.id)
@@ -31,6 +33,7 @@ pub record WordLine : Type 0 where
   pub line : ℕ
   pub row : Row
 
+-- the word line that stands at this line number, where the line holds a word
 abbrev pub word_line_at : ℕ → Content → Option WordLine
 word_line_at n no_word = None
 word_line_at n (word id row) = Some (record { line = n; row = row })
@@ -40,6 +43,7 @@ word_line_at n (wrong kind) = None
 abbrev pub word_lines_of : List Line → List WordLine
 word_lines_of lines = filter_map (λ l. word_line_at l.number (content_of l.text)) lines
 
+-- the token that a word line gives
 abbrev pub token_of : WordLine → Token
 token_of w = record {
   word = w.row.form;
