@@ -1,13 +1,12 @@
 -- One more name in a map of names and places.
-use Rattle.std.proofs.Common.{◌≡◌, ℕ, zero, suc, ◌+◌, ◌<◌, ◌≤◌, List, [], ◌∷◌, ◌++◌, length, String, string_bytes, Option, Some, None, Bool, true, false, cond, ◌==◌, bytes_eq, position, refl, sym, ap, ap₂, ◌∙◌, subst, arith, eq-eqb, length-append, add-zero, add-one}
+use Rattle.std.proofs.Common.{◌≡◌, ℕ, zero, suc, ◌+◌, ◌<◌, ◌≤◌, List, [], ◌∷◌, ◌++◌, length, String, string_bytes, Option, Some, None, Bool, true, false, cond, ◌==◌, bytes_eq, position, refl, sym, ap, ap₂, ◌∙◌, subst, arith, eq-eqb, length-append, add-one}
 use Rattle.std.specs.List.{position_from}
 use Rattle.std.specs.BTreeMap.{is_at, insert_entry, get_by_text, BTreeMap}
 use Rattle.std.specs.Map.{lookup, update}
-use Rattle.std.specs.Ordering.{nat_cmp, match_ordering, is_eq}
+use Rattle.std.specs.Ordering.{match_ordering, is_eq}
 use Rattle.std.specs.declared.cmp.Ordering.{Ordering}
 use Rattle.std.specs.declared.cmp.Ordering.TheVariants.{Less, Equal, Greater}
 use Rattle.std.specs.String.{string_cmp}
-use Rattle.std.specs.Cmp.Lexicographic.{slice_cmp}
 use Rattle.std.proofs.lemmas.Iterator.Adapters.{position_from-zero}
 use Rattle.std.proofs.lemmas.Bool.{ne_eqb}
 use Rattle.std.proofs.lemmas.Slice.Eq.{bytes_eq-Decides}

@@ -1,4 +1,4 @@
-use Rattle.std.proofs.Common.{◌≡◌, ◌+◌, ◌++◌, ◌∷◌, [], Some, None, ◌∙◌, ap, ap₂, sym, bytes_eq, position, length, string_bytes, cond}
+use Rattle.std.proofs.Common.{◌≡◌, ◌+◌, ◌++◌, ◌∷◌, [], Some, None, ◌∙◌, ap, ap₂, bytes_eq, position, length, string_bytes, cond}
 use Rattle.std.specs.Option.{is_some}
 use Rattle.std.specs.BTreeMap.{get_by_text, insert_entry}
 use Rattle.std.specs.Map.{update}
