@@ -1,0 +1,6 @@
+-- Laws of rounds.
+pub mod Sameness
+pub mod Distinct
+pub mod Walks
+pub mod Weights
+pub mod Queries

@@ -1,0 +1,4 @@
+-- Laws of sessions.
+pub mod Names
+pub mod Places
+pub mod Kept
