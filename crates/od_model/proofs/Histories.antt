@@ -1,2 +1,4 @@
 pub mod Orders
+pub mod Prints
+pub mod Sound
 pub mod Steps

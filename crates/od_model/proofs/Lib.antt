@@ -3,3 +3,4 @@ pub mod Document
 pub mod Histories
 pub mod Lists
 pub mod Matching
+pub mod Objects
