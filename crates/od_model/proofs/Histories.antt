@@ -1,3 +1,4 @@
+pub mod Climbs
 pub mod Orders
 pub mod Prints
 pub mod Sound

@@ -1,5 +1,6 @@
 -- Along a legal history the lists of each session are those of the rounds over its documents.
-use Rattle.std.proofs.Common.{◌≡◌, ◌≢◌, ℕ, suc, ◌+◌, ◌≤◌, List, [], ◌∷◌, ◌++◌, length, take, Option, Some, None, unwrap_or, Result, Ok, Err, Bool, true, false, cond, ◌||◌, ◌&&◌, nat_lt, nat_le, refl, sym, ap, ◌∙◌, subst, append-nil, append_assoc, if◌then◌else◌, arith, eqb, eq-eqb, length-append, bytes_eq}
+use Rattle.std.proofs.Common.{◌≡◌, ◌≢◌, ℕ, suc, ◌+◌, ◌≤◌, List, [], ◌∷◌, ◌++◌, length, take, Option, Some, None, unwrap_or, Result, Ok, Err, Bool, true, false, cond, ◌||◌, ◌&&◌, nat_lt, nat_le, refl, sym, ap, ◌∙◌, subst, append-nil, append_assoc, if◌then◌else◌, arith, eqb, eq-eqb, length-append, bytes_eq, ltb-false}
+use Rattle.std.proofs.lemmas.Bool.{or_parts}
 use Rattle.std.specs.List.{list_any}
 use Rattle.std.proofs.lemmas.List.{take-append-le}
 use Rattle.od_model.specs.declared.doc.Doc.{Doc}
@@ -42,6 +43,7 @@ pub record IsSoundSession (docs : List Doc) (s : SessionState) : Type 0 where
   pub reads : grammar_of s.kind s.text ≡ Some grammar
   pub within : s.documents ≤ length docs
   pub few : length s.rounds ≤ s.limit
+  pub hundred : s.limit ≤ 100
   pub rounds_are : rounds (take s.documents docs) grammar (length s.rounds) ≡ Some s.rounds
   pub unfinished : EachPoint (λ before list. phase (greatest_first grammar.rules) s.limit before ≢ stage.Finished) s.rounds
 
@@ -94,6 +96,7 @@ session-more docs doc s h = record {
   reads = h.reads;
   within = omega (arith, length-append docs (doc ∷ []), h.within);
   few = h.few;
+  hundred = h.hundred;
   rounds_are = rw (take-append-le s.documents docs (doc ∷ []) h.within) h.rounds_are;
   unfinished = h.unfinished;
 }
@@ -112,6 +115,7 @@ sound-step docs s new h going finds =
       reads = h.reads;
       within = h.within;
       few = let few = h.few in let apart : length s.rounds ≢ s.limit = below in omega (arith, few, apart, length-append s.rounds (new ∷ []));
+      hundred = h.hundred;
       rounds_are = rounds-snoc (take s.documents docs) h.grammar s.rounds new h.rounds_are (rw g at finds);
       unfinished = EachPoint-snoc (λ before list. phase (greatest_first h.grammar.rules) s.limit before ≢ stage.Finished) s.rounds new h.unfinished (λ e. going_not goes e);
     }
@@ -137,8 +141,8 @@ module _ (heads : List Head) (accepted : Each IsAccepted heads) (o : OneThread) 
   keeps-doc name body (Some fault) = h
   keeps-doc name body None = doc-new name body (has_doc o name)
 
-  add-session : (name : List ℕ) (limit : ℕ) (head : Head) → IsAccepted head → has_session o name ≡ false → IsSound (record o { sessions = o.sessions ++ bare-session caller o.docs name limit head ∷ [] })
-  add-session name limit head ok new = record {
+  add-session : (name : List ℕ) (limit : ℕ) (head : Head) → IsAccepted head → nat_lt 100 limit ≡ false → has_session o name ≡ false → IsSound (record o { sessions = o.sessions ++ bare-session caller o.docs name limit head ∷ [] })
+  add-session name limit head ok high new = record {
     distinct = EachPoint-snoc (λ seen s. list_any (is_named s.name) seen ≡ false) o.sessions (bare-session caller o.docs name limit head) h.distinct new;
     sound = Each-append (IsSoundSession o.docs) o.sessions (bare-session caller o.docs name limit head ∷ []) h.sound (
       record {
@@ -146,6 +150,7 @@ module _ (heads : List Head) (accepted : Each IsAccepted heads) (o : OneThread) 
         reads = ok.1;
         within = omega arith;
         few = omega arith;
+        hundred = ltb-false 100 limit high;
         rounds_are = rounds-none (take (length o.docs) o.docs) ok.0;
         unfinished = tt;
       },
@@ -153,24 +158,24 @@ module _ (heads : List Head) (accepted : Each IsAccepted heads) (o : OneThread) 
     );
   }
 
-  open-room : (name grammar : List ℕ) (limit : ℕ) (head : Head) → head_of grammar heads ≡ Some head → IsAccepted head → has_session o name ≡ false → (b : Bool)
+  open-room : (name grammar : List ℕ) (limit : ℕ) (head : Head) → head_of grammar heads ≡ Some head → IsAccepted head → nat_lt 100 limit ≡ false → has_session o name ≡ false → (b : Bool)
       → Keeps (OpenSession name grammar limit) (if b then Refused (NoRoom (length o.sessions)) else Opened (length o.docs) limit)
-  open-room name grammar limit head is ok new true = h
-  open-room name grammar limit head is ok new false = subst (λ x. IsSound (record o { sessions = o.sessions ++ opened name (length o.docs) limit caller x })) (sym is) (add-session name limit head ok new)
+  open-room name grammar limit head is ok high new true = h
+  open-room name grammar limit head is ok high new false = subst (λ x. IsSound (record o { sessions = o.sessions ++ opened name (length o.docs) limit caller x })) (sym is) (add-session name limit head ok high new)
 
-  open-new : (name grammar : List ℕ) (limit : ℕ) (head : Head) → head_of grammar heads ≡ Some head → IsAccepted head → (b : Bool) → has_session o name ≡ b
+  open-new : (name grammar : List ℕ) (limit : ℕ) (head : Head) → head_of grammar heads ≡ Some head → IsAccepted head → nat_lt 100 limit ≡ false → (b : Bool) → has_session o name ≡ b
       → Keeps (OpenSession name grammar limit) (if b then Refused Taken else (if nat_le 128 (length o.sessions) then Refused (NoRoom (length o.sessions)) else Opened (length o.docs) limit))
-  open-new name grammar limit head is ok true e = h
-  open-new name grammar limit head is ok false e = open-room name grammar limit head is ok e (nat_le 128 (length o.sessions))
+  open-new name grammar limit head is ok high true e = h
+  open-new name grammar limit head is ok high false e = open-room name grammar limit head is ok high e (nat_le 128 (length o.sessions))
 
-  open-limit : (name grammar : List ℕ) (limit : ℕ) (head : Head) → head_of grammar heads ≡ Some head → IsAccepted head → (b : Bool)
+  open-limit : (name grammar : List ℕ) (limit : ℕ) (head : Head) → head_of grammar heads ≡ Some head → IsAccepted head → (b : Bool) → (nat_lt limit 1 || nat_lt 100 limit) ≡ b
       → Keeps (OpenSession name grammar limit) (if b then Refused (BadLimit limit) else (if has_session o name then Refused Taken else (if nat_le 128 (length o.sessions) then Refused (NoRoom (length o.sessions)) else Opened (length o.docs) limit)))
-  open-limit name grammar limit head is ok true = h
-  open-limit name grammar limit head is ok false = open-new name grammar limit head is ok (has_session o name) refl
+  open-limit name grammar limit head is ok true e = h
+  open-limit name grammar limit head is ok false e = let parts = or_parts (nat_lt limit 1) (nat_lt 100 limit) e in open-new name grammar limit head is ok parts.1 (has_session o name) refl
 
   keeps-open : (name grammar : List ℕ) (limit : ℕ) (head : Option Head) → head_of grammar heads ≡ head → Keeps (OpenSession name grammar limit) (reply_headed o name limit head)
   keeps-open name grammar limit None e = h
-  keeps-open name grammar limit (Some head) e = open-limit name grammar limit head e (Each-find IsAccepted (λ x. bytes_eq x.name grammar) head heads accepted e) (nat_lt limit 1 || nat_lt 100 limit)
+  keeps-open name grammar limit (Some head) e = open-limit name grammar limit head e (Each-find IsAccepted (λ x. bytes_eq x.name grammar) head heads accepted e) (nat_lt limit 1 || nat_lt 100 limit) refl
 
   add-round : (name : List ℕ) (s : SessionState) (new : List Mention) → session_of name o.sessions ≡ Some s → phase_with s s.rounds ≡ stage.Going → round_at o.docs s ≡ Found new
       → IsSound (record o { sessions = change name (stepped o.docs) o.sessions })
@@ -207,7 +212,7 @@ module _ (heads : List Head) (accepted : Each IsAccepted heads) (o : OneThread) 
   keeps-step name (Some s) e = step-held name s e s.holder
 
   sound-held : (s : SessionState) (holder : Option ℕ) → IsSoundSession o.docs s → IsSoundSession o.docs (record s { holder = holder })
-  sound-held s holder k = record { grammar = k.grammar; reads = k.reads; within = k.within; few = k.few; rounds_are = k.rounds_are; unfinished = k.unfinished }
+  sound-held s holder k = record { grammar = k.grammar; reads = k.reads; within = k.within; few = k.few; hundred = k.hundred; rounds_are = k.rounds_are; unfinished = k.unfinished }
 
   -- the holder alone changes
   hold-changed : (name : List ℕ) (holder : Option ℕ) → IsSound (record o { sessions = change name (λ s. record s { holder = holder }) o.sessions })
