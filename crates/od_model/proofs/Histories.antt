@@ -1,2 +1,5 @@
+pub mod Climbs
 pub mod Orders
+pub mod Prints
+pub mod Sound
 pub mod Steps

@@ -127,7 +127,7 @@ module _ (w : World) (p : Surface) where
   inside on i true e rest = told on i (ltb-true i w.length e) rest (first w p accept i) refl
   inside on i false e rest = scan_end w p i (ltb-false i w.length e)
 
-  scans_from : (n i : ℕ) → w.length ≤ i + n → Scans w p i (scan_from w p n i)
+  pub scans_from : (n i : ℕ) → w.length ≤ i + n → Scans w p i (scan_from w p n i)
   unfolding scan_from
   scans_from zero i h = scan_end w p i (omega arith)
   scans_from (suc n) i h = inside (scan_from w p n) i (nat_lt i w.length) refl (λ j lt le. scans_from n j (omega arith))
