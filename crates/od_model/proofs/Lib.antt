@@ -5,4 +5,3 @@ pub mod Lists
 pub mod Matching
 pub mod Objects
 pub mod Rounds
-pub mod Sessions

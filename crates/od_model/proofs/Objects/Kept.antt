@@ -11,7 +11,8 @@ use Rattle.od_model.specs.declared.object.OneThread.{OneThread}
 use Rattle.od_model.specs.Object.Parts.{Distinct, head_of, has_session}
 use Rattle.od_model.specs.Object.Effects.{effect_of, opened, stepped, taken_by, let_go}
 use Rattle.od_model.specs.Object.Replies.{Replies, reply_open, reply_headed}
-use Rattle.od_model.proofs.Sessions.Names.{Distinct-change, Distinct-append}
+use Rattle.od_model.proofs.Objects.Names.{Distinct-change}
+use Rattle.od_model.proofs.Objects.Places.{Distinct-append}
 
 -- ## An opening
 

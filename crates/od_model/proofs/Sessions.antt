@@ -1,4 +1,0 @@
--- Laws of sessions.
-pub mod Names
-pub mod Places
-pub mod Kept
