@@ -2,3 +2,4 @@
 #![tactic(auto)]
 
 pub mod names;
+pub mod store;

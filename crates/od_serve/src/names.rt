@@ -14,7 +14,7 @@ pub struct Names {
 
 impl Model for Names {
     ghost use Rattle.std.specs.Prelude.{ℕ, List};
-    ghost use Rattle.od_serve.specs.Store.Names.{listed, IsNumbered};
+    ghost use Rattle.od_serve.specs.Stores.Names.{listed, IsNumbered};
 
     ghost Value = { List (List ℕ) };
 

@@ -1,7 +1,7 @@
 use Rattle.std.proofs.Common.{◌∙◌, ap, bytes_eq, position}
 use Rattle.std.specs.List.{position_from}
-use Rattle.od_serve.specs.Store.Names.{listed}
-use Rattle.od_serve.proofs.Store.Names.{position_zero}
+use Rattle.od_serve.specs.Stores.Names.{listed}
+use Rattle.od_serve.proofs.Stores.Names.{position_zero}
 use Rattle.od_serve.proofs.names.Names.place.Goals as goal
 
 pub returns : goal.returns

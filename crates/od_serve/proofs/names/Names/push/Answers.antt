@@ -4,8 +4,8 @@ use Rattle.std.specs.BTreeMap.{get_by_text, insert_entry}
 use Rattle.std.specs.Map.{update}
 use Rattle.std.specs.String.{string_cmp}
 use Rattle.std.proofs.lemmas.Map.Text.{btree_map_updates_text}
-use Rattle.od_serve.specs.Store.Names.{listed}
-use Rattle.od_serve.proofs.Store.Names.{position_zero, listed_put, numbered_put}
+use Rattle.od_serve.specs.Stores.Names.{listed}
+use Rattle.od_serve.proofs.Stores.Names.{position_zero, listed_put, numbered_put}
 use Rattle.od_serve.proofs.names.Names.push.Goals as goal
 
 key-is-name : (c : goal.In-Ok-insert) → string_bytes c.in-Ok.key ≡ c.args.name.now

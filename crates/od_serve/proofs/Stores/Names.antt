@@ -11,7 +11,7 @@ use Rattle.std.proofs.lemmas.Iterator.Adapters.{position_from-zero}
 use Rattle.std.proofs.lemmas.Bool.{ne_eqb}
 use Rattle.std.proofs.lemmas.Slice.Eq.{bytes_eq-Decides}
 use Rattle.od_model.specs.Lists.{Each}
-use Rattle.od_serve.specs.Store.Names.{name_at, names_below, listed, IsNumbered}
+use Rattle.od_serve.specs.Stores.Names.{name_at, names_below, listed, IsNumbered}
 
 -- ## Places in a list
 
