@@ -3,6 +3,7 @@
 
 pub mod conllu;
 pub mod doc;
+pub mod document_laws;
 pub mod grammar;
 pub mod history;
 pub mod list;

@@ -1,0 +1,4 @@
+pub mod Legal
+pub mod Lines
+pub mod Orders
+pub mod Prints

@@ -1,0 +1,4 @@
+pub mod Due
+pub mod Effects
+pub mod Parts
+pub mod Replies

@@ -1,0 +1,4 @@
+pub mod Phases
+pub mod Round
+pub mod Weight
+pub mod Sites

@@ -1,0 +1,2 @@
+//! The server: reads a script, answers its commands by the one-thread object, and writes the lines.
+#![tactic(auto)]
