@@ -7,3 +7,4 @@ pub mod Scans
 pub mod Steps
 pub mod Words
 pub mod Distinct
+pub mod Examples
