@@ -8,3 +8,6 @@ pub mod Steps
 pub mod Words
 pub mod Distinct
 pub mod Examples
+pub mod Tests
+pub mod Spread
+pub mod Reaches

@@ -1,7 +1,7 @@
-//! The laws of derivations and scans, which hold of every pattern and every sentence.
+//! The laws of derivations, scans and paths, which hold of every pattern and every sentence.
 //!
 //! A law is what a function here ensures; the function itself does nothing.
-ghost use Rattle.od_model.specs.Matching.Laws.{SameChoicesAgree, NoProperFront, StaysWithin, OneBest, ScanIsComputed, OneScan};
+ghost use Rattle.od_model.specs.Matching.Laws.{SameChoicesAgree, NoProperFront, StaysWithin, OneBest, ScanIsComputed, OneScan, ReachIsComputed};
 
 /// The choices of a derivation decide its end and its captures, and none goes on where another has ended.
 pub fn choices_decide()
@@ -19,4 +19,9 @@ pub fn best_is_unique()
 pub fn scan_is_computed()
     ensures computed { ScanIsComputed }
     ensures unique { OneScan }
+{}
+
+/// From some tokens of a sentence a path leads to exactly the tokens that are computed.
+pub fn reach_is_computed()
+    ensures { ReachIsComputed }
 {}
