@@ -11,3 +11,4 @@ pub mod Examples
 pub mod Tests
 pub mod Spread
 pub mod Reaches
+pub mod Sameness

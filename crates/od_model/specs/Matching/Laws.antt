@@ -1,9 +1,11 @@
--- The laws of derivations, scans and paths.
-use Rattle.std.specs.Prelude.{◌≡◌, ◌↔◌, ℕ, ◌<◌, ◌≤◌, true, List, [], ◌++◌, length}
+-- The laws of derivations, scans, paths and sameness.
+use Rattle.std.specs.Prelude.{◌≡◌, ◌↔◌, IsTrue, ℕ, ◌<◌, ◌≤◌, true, List, [], ◌++◌, length}
 use Rattle.od_model.specs.Matching.Choice.{Capture}
 use Rattle.od_model.specs.Matching.Derives.{World, derives}
 use Rattle.od_model.specs.Matching.Scan.{IsBest, Match, Scans, world_in, scan_of}
 use Rattle.od_model.specs.Matching.Reach.{Set, leads, reached}
+use Rattle.od_model.specs.Matching.Mentions.{same_mention}
+use Rattle.od_model.specs.declared.mention.Mention.{Mention}
 use Rattle.od_model.specs.declared.path.Path.{Path}
 use Rattle.od_model.specs.declared.sentence.Sentence.{Sentence}
 use Rattle.od_model.specs.declared.mention.Labelled.{Labelled}
@@ -40,3 +42,7 @@ abbrev pub ReachIsComputed : Type 0
 ReachIsComputed =
     (s : Sentence) (p : Path) (marked : Set) (b : ℕ) → ((k : ℕ) → marked k ≡ true → k < length s.tokens)
     → (reached s p marked b ≡ true) ↔ ((a : ℕ) × (marked a ≡ true) × leads s p a b)
+
+-- two mentions pass the test of sameness exactly where they are equal
+abbrev pub SamenessIsEquality : Type 0
+SamenessIsEquality = (a b : Mention) → IsTrue (same_mention a b) ↔ (a ≡ b)
