@@ -7,3 +7,8 @@ pub mod Scans
 pub mod Steps
 pub mod Words
 pub mod Distinct
+pub mod Examples
+pub mod Tests
+pub mod Spread
+pub mod Reaches
+pub mod Sameness

@@ -21,6 +21,7 @@ use Rattle.od_model.specs.declared.pattern.Surface.{Surface, Row_of-Surface, end
 use Rattle.od_model.specs.declared.pattern.Surface.TheBlock.{hidden-the_row-Surface-1}
 
 module _ (s : Sentence) where
+  -- constraints from their parts
   pub holds_not : (c : Constraint) (k : ℕ) → holds s (constraint.Not c) k ≡ not (holds s c k)
   unfolding holds hidden hidden-the_row-Constraint-0
   holds_not c k = refl
@@ -59,6 +60,7 @@ module _ (w : World) where
   first_in [] = first_never
   first_in (p ∷ ps) = first_or (first w p) (first_in ps)
 
+  -- the parts in a row are those of the list
   in_order-row : (n : _) (row : Row_of-Surface n) → in_order w row ≡ derives_order (items-the_row-Surface n row)
   unfolding in_order
   in_order-row n end_of-Surface = refl
@@ -79,6 +81,7 @@ module _ (w : World) where
   first_of-row n end_of-Surface = refl
   first_of-row n (more_of-Surface p rest) = ap (first_or (first w p)) (first_of-row _ rest)
 
+  -- derivations of a pattern from its parts
   pub derives_seq : (ps : List Surface) → derives w (surface.Seq ps) ≡ derives_order ps
   unfolding derives
   derives_seq ps = let row = row_of (surface.Seq ps) in in_order-row row.0 row.1 ∙ ap derives_order (items_hidden-the_row-Surface-0 ps)
@@ -95,6 +98,7 @@ module _ (w : World) where
   unfolding derives hidden hidden-the_row-Surface-1
   derives_capture name p = refl
 
+  -- the preferred way from the parts
   pub first_seq : (ps : List Surface) → first w (surface.Seq ps) ≡ first_in_order ps
   unfolding first
   first_seq ps = let row = row_of (surface.Seq ps) in first_order-row row.0 row.1 ∙ ap first_in_order (items_hidden-the_row-Surface-0 ps)
@@ -127,6 +131,7 @@ module _ (s : Sentence) where
   reached_one [] marked b = false
   reached_one (p ∷ ps) marked b = reached s p marked b || reached_one ps marked b
 
+  -- the paths in a row are those of the list
   reached_on-row : (n : _) (row : Row_of-Path n) (marked : Set) (b : ℕ) → reached_on s row marked b ≡ reached_order (items-the_row-Path n row) marked b
   unfolding reached_on
   reached_on-row n end_of-Path marked b = refl
@@ -137,6 +142,7 @@ module _ (s : Sentence) where
   reached_by-row n end_of-Path marked b = refl
   reached_by-row n (more_of-Path p rest) marked b = ap (λ z. reached s p marked b || z) (reached_by-row _ rest marked b)
 
+  -- the tokens that a path leads to from its parts
   pub reached_seq : (ps : List Path) (marked : Set) (b : ℕ) → reached s (path.Seq ps) marked b ≡ reached_order ps marked b
   unfolding reached
   reached_seq ps marked b = let row = path_row_of (path.Seq ps) in reached_on-row row.0 row.1 marked b ∙ ap (λ z. reached_order z marked b) (items_hidden-the_row-Path-0 ps)

@@ -21,19 +21,23 @@ abbrev pub BeginBefore : ℕ → List Mention → Type 0
 BeginBefore i [] = Unit {0}
 BeginBefore i (m ∷ ms) = (m.start < i) × BeginBefore i ms
 
+-- and before every later place
 BeginBefore-later : (i j : ℕ) (ms : List Mention) → i ≤ j → BeginBefore i ms → BeginBefore j ms
 BeginBefore-later i j [] h b = tt
 BeginBefore-later i j (m ∷ ms) h (b, bs) = (omega arith, BeginBefore-later i j ms h bs)
 
+-- one more
 BeginBefore-snoc : (i : ℕ) (ms : List Mention) (m : Mention) → BeginBefore i ms → m.start < i → BeginBefore i (ms ++ m ∷ [])
 BeginBefore-snoc i [] m b h = (h, tt)
 BeginBefore-snoc i (n ∷ ms) m (b, bs) h = (b, BeginBefore-snoc i ms m bs h)
 
+-- a row of tests fails with its third
 third_false : (a b c d : Bool) → c ≡ false → (a && (b && (c && d))) ≡ false
 third_false true true c d e = ap (λ (z : Bool). z && d) e
 third_false true false c d e = refl
 third_false false b c d e = refl
 
+-- different starts do not pass the test
 starts_differ : (a b : ℕ) (same : Bool) → (a == b) ≡ same → b < a → same ≡ false
 starts_differ a b true e h = absurd (let q : a ≡ b = eqb-true a b e in omega arith)
 starts_differ a b false e h = refl
@@ -48,6 +52,7 @@ is_among-later : (seen : List Mention) (m : Mention) → BeginBefore m.start see
 is_among-later [] m b = refl
 is_among-later (n ∷ seen) m (b, bs) = ap (λ (z : Bool). z || is_among seen m) (same_mention-start m n b) ∙ is_among-later seen m bs
 
+-- so it is added
 with_new-later : (seen : List Mention) (m : Mention) → BeginBefore m.start seen → with_new seen m ≡ seen ++ m ∷ []
 with_new-later seen m b = ap (λ (z : Bool). if z then seen else seen ++ m ∷ []) (is_among-later seen m b)
 

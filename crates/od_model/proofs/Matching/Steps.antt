@@ -24,6 +24,7 @@ module _ (w : World) (p : Surface) where
   unfolding scan_from
   scan_at-end i h = sym (scan_enough 0 i (omega arith))
 
+  -- one step of the search
   stepped : (i n : ℕ) (b : Bool) → nat_lt i w.length ≡ b → b ≡ true → scan_from w p (suc n) i ≡ take_or_go (scan_from w p n) i (first w p accept i)
   unfolding scan_from
   stepped i n b e h = ap (λ (z : Bool). if z then take_or_go (scan_from w p n) i (first w p accept i) else []) (e ∙ h)

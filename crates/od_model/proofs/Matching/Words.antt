@@ -38,6 +38,7 @@ pub record IsAt (tokens : List Token) (i : ℕ) (token : Token) : Type 0 where
   pub got : slice_get tokens i ≡ Some token
   pub on : drop i tokens ≡ token ∷ drop (i + 1) tokens
 
+-- at each place within the sentence there is a token
 token_at : (tokens : List Token) (i : ℕ) → i < length tokens → (token : Token) × IsAt tokens i token
 token_at [] i h = absurd (omega arith)
 token_at (d ∷ tokens) i h = (get_or (d ∷ tokens) i d, record { got = slice_get-get_or (d ∷ tokens) i d h; on = rw add-one (drop-cons (d ∷ tokens) i d h) })
@@ -64,16 +65,19 @@ module _ (s : Sentence) (labels : List Labelled) where
   unfolding holds
   fits_outside word i h = ap (λ (z : Bool). z && list_any (bytes_eq word) (texts_of Norm (slice_get s.tokens i))) (le-ltb i (length s.tokens) h)
 
+  -- the preferred way through one word
   one_word : (word : List ℕ) (k : Continuation) (i : ℕ) (b : Bool) → fits_token w (constraint.Is Norm (Plain word)) i ≡ b
       → first w (word_surface word) k i ≡ (if b then k (i + 1) else None)
   unfolding first
   one_word word k i b e = ap (λ (z : Bool). if z then k (i + 1) else None) e
 
+  -- one word, and then the others
   joined : (b : Bool) (words : List (List ℕ)) (tokens : List Token) (x y : Option Ending) → x ≡ (if begins_with words tokens then y else None)
       → (if b then x else None) ≡ (if b && begins_with words tokens then y else None)
   joined true words tokens x y e = e
   joined false words tokens x y e = refl
 
+  -- the preferred way through words in order
   in_order : (words : List (List ℕ)) (k : Continuation) (i : ℕ)
       → first_in_order w (map word_surface words) k i ≡ (if begins_with words (drop i s.tokens) then k (i + length words) else None)
   in_order [] k i = ap k (sym (add-zero i))
@@ -101,10 +105,12 @@ module _ (s : Sentence) (labels : List Labelled) where
   first_words (word ∷ []) k i = in_order (word ∷ []) k i
   first_words (word ∷ next ∷ words) k i = ap (λ (f : Trial). f k i) (first_seq w (map word_surface (word ∷ next ∷ words))) ∙ in_order (word ∷ next ∷ words) k i
 
+  -- the same, where nothing follows
   accepted : (words : List (List ℕ)) (i : ℕ) (b : Bool) → begins_with words (drop i s.tokens) ≡ b
       → first w (words_surface words) accept i ≡ (if b then accept (i + length words) else None)
   accepted words i b e = first_words words accept i ∙ ap (λ (z : Bool). if z then accept (i + length words) else None) e
 
+  -- words stand only within the sentence
   inside : (words : List (List ℕ)) (i : ℕ) → 0 < length words → begins_with words (drop i s.tokens) ≡ true → i < length s.tokens
   inside words i some e = let le : length words ≤ length (drop i s.tokens) = begins_with-fits words _ e in omega (arith, length-drop i s.tokens)
 
