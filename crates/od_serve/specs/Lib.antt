@@ -1,1 +1,2 @@
--- The definitions of this crate stand in the base crate.
+pub mod Hashes
+pub mod Known
