@@ -15,5 +15,6 @@ pub mod pattern;
 pub mod rule;
 pub mod script;
 pub mod sentence;
+pub mod status;
 pub mod text;
 pub mod token;
