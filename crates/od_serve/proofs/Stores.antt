@@ -1,3 +1,5 @@
+pub mod Answers
 pub mod Changes
 pub mod Names
+pub mod Phases
 pub mod Places

@@ -3,4 +3,5 @@
 
 pub mod known;
 pub mod names;
+pub mod query;
 pub mod store;

@@ -2,14 +2,19 @@
 ghost use Rattle.std.specs.Prelude.{◌≡◌};
 
 use crate::names::Names;
+use heads::is_known;
 use od_model::doc::Doc;
+use od_model::grammar::Head;
 use od_model::history::{Refusal, Reply};
-use od_model::text::Text;
+use od_model::list::List;
+use od_model::mention::Mention;
+use od_model::text::{NoMemory, Text};
 use session::Session;
 use std::alloc::Global;
 use std::marker::Model;
 
-pub mod session;
+mod heads;
+mod session;
 
 /// The committed documents and the sessions. The bytes that the documents were read from and their sentences are counted,
 /// and a document or a session is found by its name.
@@ -35,13 +40,13 @@ impl Model for Store {
 }
 
 impl Store {
-    ghost use Rattle.std.specs.Prelude.{◌≡◌, MatchResult, MatchOption, List as Seq, Ok, Err, Some, None, slice_get, option_map};
+    ghost use Rattle.std.specs.Prelude.{◌≡◌, MatchResult, MatchOption, IfOk, ℕ, List as Seq, Ok, Err, Some, None, slice_get, option_map, option_copied};
     ghost use Rattle.od_model.specs.declared.object.SessionState.{SessionState as State};
     ghost use Rattle.od_model.specs.declared.grammar.Head.{Head as Headed};
-    ghost use Rattle.od_model.specs.declared.history.Command.TheVariants.{Release as AsksRelease};
+    ghost use Rattle.od_model.specs.declared.history.Command.TheVariants.{Resume as AsksResume, Release as AsksRelease, Settle as AsksSettle};
     ghost use Rattle.od_model.specs.Object.Parts.{nothing, session_of};
     ghost use Rattle.od_model.specs.Object.Effects.{effect_of};
-    ghost use Rattle.od_model.specs.Object.Replies.{held, reply_release};
+    ghost use Rattle.od_model.specs.Object.Replies.{held, reply_resume, reply_print, reply_release, Replies};
 
     /// No document and no session.
     pub fn new(alloc: Global) -> Store
@@ -85,6 +90,43 @@ impl Store {
         Ok(i)
     }
 
+    /// The lists of a session's rounds.
+    pub fn rounds_of(&self, name: &Text) -> Option<&[List<Mention>]>
+        ensures { option_map (λ rounds. rounds.now) result ≡ option_map (λ s. s.rounds) (session_of name.now self.now.sessions) }
+    {
+        let i = self.place(name)?;
+        Some(self.sessions[i].state().rounds.get())
+    }
+
+    /// The caller holds the session afterwards, where nobody held it and its grammar is one of the script's.
+    fn answer_resume(&mut self, heads: &[Head], caller: u32, name: &Text) -> Reply
+        ensures replies { result ≡ reply_resume heads.now (session_of name.now self.old.sessions) }
+        ensures effect { self.new ≡ effect_of heads.now self.old caller (AsksResume name.now) result }
+    {
+        let Some(i) = self.place(name) else {
+            return Reply::Refused(Refusal::NoSession);
+        };
+        let session = &mut self.sessions[i];
+        if let Some(owner) = session.state().holder {
+            return Reply::Refused(Refusal::Busy { owner });
+        }
+        if !is_known(heads, session.state()) {
+            return Reply::Refused(Refusal::NoGrammar);
+        }
+        session.take(caller);
+        session.resumed()
+    }
+
+    /// What the session has, where the caller holds it.
+    fn answer_print(&self, caller: u32, name: &Text) -> Reply
+        ensures { result ≡ reply_print (held self.now caller name.now) }
+    {
+        match self.held(caller, name) {
+            Ok(i) => self.sessions[i].printed(),
+            Err(refusal) => Reply::Refused(refusal),
+        }
+    }
+
     /// Nobody holds the session afterwards, where the caller held it.
     fn answer_release(&mut self, caller: u32, name: &Text) -> Reply
         ensures replies { result ≡ reply_release (held self.old caller name.now) }
@@ -97,5 +139,16 @@ impl Store {
         let session = &mut self.sessions[i];
         session.let_go();
         Reply::Released
+    }
+
+    /// All sentences in one segment, or no segment where there is none.
+    fn answer_settle(&self, alloc: Global) -> Result<Reply, NoMemory>
+        ensures { IfOk result (λ reply. (heads : Seq Headed) (caller : ℕ) → Replies heads self.now caller AsksSettle reply) }
+    {
+        let mut sizes = List::new(alloc);
+        if self.sentences > 0 {
+            sizes.push(self.sentences as u32)?;
+        }
+        Ok(Reply::Settled { sizes })
     }
 }

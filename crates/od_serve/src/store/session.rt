@@ -1,22 +1,31 @@
 //! A session that runs.
-ghost use Rattle.std.specs.Prelude.{◌≡◌, length, map, MatchResult, Ok, Err};
+ghost use Rattle.std.specs.Prelude.{◌≡◌, ◌≤◌, length, map, MatchResult, IfOk, Ok, Err, Some, []};
+ghost use Rattle.od_model.specs.declared.history.Reply.TheVariants.{Resumed};
+ghost use Rattle.od_model.specs.Grammars.Query.{grammar_of, query_grammar};
 ghost use Rattle.od_model.specs.Rounds.Round.{joined};
+ghost use Rattle.od_model.specs.Rounds.Phases.{ends_empty, phase};
 ghost use Rattle.od_model.specs.Object.Parts.{phase_with};
 ghost use Rattle.od_model.specs.Object.Effects.{taken_by, let_go};
-ghost use Rattle.od_model.specs.Object.Replies.{held_as};
+ghost use Rattle.od_model.specs.Object.Replies.{held_as, reply_print};
 
-use od_model::history::{Phase, Refusal};
+use crate::known::Known;
+use crate::query::query_words;
+use od_model::grammar::Head;
+use od_model::history::{Phase, Refusal, Reply};
 use od_model::list::List;
 use od_model::mention::Mention;
 use od_model::object::SessionState;
-use od_model::text::Text;
+use od_model::text::{Copied, NoMemory, Text};
+use std::alloc::Global;
 use std::marker::Model;
 
-/// A session with its query's words, folded, and the weight of its mentions.
+/// A session with the words of its query, folded, and notes of its mentions, their number and their weight.
 #[derive(Drop)]
 pub struct Session {
     state: SessionState,
     words: Vec<Text>,
+    known: Known,
+    mentions: u32,
     weight: u64,
 }
 
@@ -28,10 +37,64 @@ impl Model for Session {
 
     ghost view = { λ s. s.state };
 
-    ghost invariant = { λ s. IsRunning s.state s.words.items s.weight };
+    ghost invariant = { λ s. IsRunning s.state s.words.items s.known s.mentions s.weight };
+}
+
+/// Whether there is a last list, and it is empty.
+fn has_ended(lists: &[List<Mention>]) -> bool
+    ensures { result ≡ ends_empty lists.now }
+{
+    match lists.last() {
+        None => false,
+        Some(list) => list.len() == 0,
+    }
+}
+
+/// Whether a session goes on that had these lists, one a round, and has one rule, which runs from round 1 on.
+fn phase_of(lists: &[List<Mention>], limit: u32) -> Phase
+    ensures { result ≡ phase 1 limit lists.now }
+{
+    if has_ended(lists) {
+        return Phase::Finished;
+    }
+    if lists.len() == limit as usize {
+        return Phase::AtLimit;
+    }
+    Phase::Going
 }
 
 impl Session {
+    /// A session of a query that the caller holds, over the first documents, with no round yet.
+    pub fn open(
+        alloc: Global,
+        name: &Text,
+        head: &Head,
+        documents: u32,
+        limit: u32,
+        caller: u32,
+    ) -> Result<Session, NoMemory>
+        requires query { grammar_of head.now.kind head.now.text ≡ Some (query_grammar head.now.text) }
+        requires limited { limit ≤ 100 }
+        ensures { IfOk result (λ session. session ≡ record { name = name.now; kind = head.now.kind; text = head.now.text; documents = documents; limit = limit; rounds = []; holder = Some caller }) }
+    {
+        let state = SessionState {
+            name: name.copy(alloc)?,
+            kind: head.kind,
+            text: head.text.copy(alloc)?,
+            documents,
+            limit,
+            rounds: List::new(alloc),
+            holder: Some(caller),
+        };
+        Ok(Session {
+            state,
+            words: query_words(alloc, &head.text)?,
+            known: Known::new(alloc),
+            mentions: 0,
+            weight: 0,
+        })
+    }
+
     /// The session's state, for reading.
     pub fn state(&self) -> &SessionState
         ensures { result.now ≡ self.now }
@@ -52,6 +115,44 @@ impl Session {
                     Err(Refusal::Busy { owner })
                 }
             }
+        }
+    }
+
+    /// Whether the rounds go on.
+    pub fn phase(&self) -> Phase
+        ensures { result ≡ phase_with self.now self.now.rounds }
+    {
+        phase_of(self.state.rounds.get(), self.state.limit)
+    }
+
+    /// The number of rounds.
+    fn round(&self) -> u32
+        ensures { result ≡ length self.now.rounds }
+    {
+        self.state.rounds.len() as u32
+    }
+
+    /// The answer to a print by the holder.
+    pub fn printed(&self) -> Reply
+        ensures { result ≡ reply_print (Ok self.now) }
+    {
+        Reply::Printed {
+            round: self.round(),
+            mentions: self.mentions,
+            phase: self.phase(),
+        }
+    }
+
+    /// The answer to a resume that was taken.
+    pub fn resumed(&self) -> Reply
+        ensures { result ≡ Resumed self.now.documents self.now.limit (length self.now.rounds) (length (joined self.now.rounds)) (phase_with self.now self.now.rounds) }
+    {
+        Reply::Resumed {
+            documents: self.state.documents,
+            limit: self.state.limit,
+            round: self.round(),
+            mentions: self.mentions,
+            phase: self.phase(),
         }
     }
 
