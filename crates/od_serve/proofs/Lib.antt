@@ -1,1 +1,4 @@
 -- The lemmas of this crate, each named by a line `pub mod`.
+pub mod Cuts
+pub mod Queries
+pub mod Scripts

@@ -1,1 +1,3 @@
--- The definitions of this crate stand in the base crate.
+-- The words of this crate, each named by a line `pub mod`.
+pub mod Cuts
+pub mod Scripts
