@@ -2,7 +2,8 @@
 ghost use Rattle.std.specs.Prelude.{◌≡◌, ◌==◌};
 ghost use Rattle.std.specs.List.{position};
 ghost use Rattle.std.specs.Option.{option_map};
-ghost use Rattle.od_serve.specs.Cuts.{both, split_once, CutsAt};
+ghost use Rattle.od_model.specs.Document.Columns.{split_once};
+ghost use Rattle.od_serve.specs.Cuts.{both, CutsAt};
 
 /// The place of the first separator.
 fn place(bytes: &[u8], separator: u8) -> Option<usize>

@@ -1,6 +1,6 @@
 //! The server: reads a script, answers its commands by the one-thread object, and writes the lines.
 #![tactic(auto)]
 
-pub mod cut;
+mod cut;
 pub mod query;
 pub mod script;

@@ -1,4 +1,16 @@
-//! Reading a script: the bytes of one query and one client become heads and orders.
+//! Reading a script. These are its lines, each ended by a line feed, and nothing else:
+//!
+//! ```text
+//! query NAME W1 .. Wn     1 to 16 words, one space between two
+//! client
+//! doc D N                 then N lines of any bytes, the document
+//! open S NAME LIMIT       the NAME of the query, a LIMIT of 1 to 100 rounds
+//! run S
+//! print S                 the S of `open`, as in `run`
+//! ```
+//!
+//! A word is 1 to 64 ASCII letters. A name is 1 to 64 bytes: ASCII letters, digits, `_`, `.` and `-`.
+//! A number is `0`, or up to 9 digits without a leading zero. A script has at most 64 MiB.
 ghost use Rattle.std.specs.Prelude.{◌≡◌, ◌≤◌, ◌++◌, [], ◌∷◌, ℕ, List as Seq, Some, None, IfOk, IsErrOf, length};
 ghost use Rattle.std.specs.List.{list_all};
 ghost use Rattle.std.specs.Option.{option_map};
@@ -21,7 +33,7 @@ use std::str::from_utf8;
 /// Why no script was read.
 #[derive(Clone, Copy, Debug, PartialEq, Eq)]
 pub enum ScriptFault {
-    /// The bytes are no script of this stage: one query, one client, one document, one session.
+    /// The bytes are no script of this stage, which has one query, one client, one document and one session.
     Later,
     /// Memory was refused.
     NoMemory,
@@ -29,16 +41,21 @@ pub enum ScriptFault {
 
 /// What a script says, borrowed from its bytes.
 #[derive(Clone, Copy, Debug)]
-pub struct Pieces<'a> {
-    pub grammar: &'a str,
-    pub query: &'a str,
-    pub document: &'a str,
-    pub body: &'a [u8],
-    pub session: &'a str,
-    pub limit: u32,
+struct Pieces<'a> {
+    /// The name of the query.
+    grammar: &'a str,
+    /// The query's words, as they stand.
+    query: &'a str,
+    /// The name of the document.
+    document: &'a str,
+    /// The document's lines, with their line feeds.
+    body: &'a [u8],
+    session: &'a str,
+    /// In rounds.
+    limit: u32,
 }
 
-/// The most bytes of a script: 64 MiB.
+/// The most bytes of a script, 64 MiB.
 const SCRIPT_BYTES: usize = 67108864;
 
 /// The most bytes of a name.
@@ -57,12 +74,14 @@ fn equal(bytes: &[u8], others: &[u8]) -> bool
     bytes == others
 }
 
+/// Whether it is an ASCII letter, a digit, `_`, `.` or `-`.
 fn is_name_byte(byte: u8) -> bool
     ensures { result ≡ is_name_byte byte }
 {
     is_letter(byte) || byte.is_ascii_digit() || byte == b'_' || byte == b'.' || byte == b'-'
 }
 
+/// Whether each byte may stand in a name.
 fn are_name_bytes(text: &[u8]) -> bool
     ensures { result ≡ list_all is_name_byte text.now }
 {
@@ -300,7 +319,8 @@ fn script(alloc: Global, pieces: &Pieces<'_>) -> Result<Script, NoMemory>
     })
 }
 
-/// Reads a script: one query, one client, and of this client one document and one session.
+/// Reads a script. The document's block and the query's words are taken as they stand: neither is tested as a
+/// document, nor folded.
 pub fn read_script(alloc: Global, bytes: &[u8]) -> Result<Script, ScriptFault>
     ensures ok { IfOk result (λ script. script_of bytes.now ≡ Some script) }
     ensures later { IsErrOf result ScriptFault.Later → script_of bytes.now ≡ None }
@@ -311,5 +331,105 @@ pub fn read_script(alloc: Global, bytes: &[u8]) -> Result<Script, ScriptFault>
     match script(alloc, &pieces) {
         Ok(script) => Ok(script),
         Err(NoMemory) => Err(ScriptFault::NoMemory),
+    }
+}
+
+#[cfg(test)]
+mod tests {
+    use super::*;
+
+    const EXAMPLE: &[u8] = b"query q dogs bark\nclient\ndoc d1 7\n\
+        1\tBig\tbig\tADJ\tJJ\t_\t2\tamod\t_\t_\n\
+        2\tDogs\tdog\tNOUN\tNNS\t_\t3\tnsubj\t_\t_\n\
+        3\tbark\tbark\tVERB\tVBP\t_\t0\troot\t_\t_\n\
+        \n\
+        1\tCats\tcat\tNOUN\tNNS\t_\t2\tnsubj\t_\t_\n\
+        2\tsleep\tsleep\tVERB\tVBP\t_\t0\troot\t_\t_\n\
+        \n\
+        open s q 5\nrun s\nprint s\n";
+
+    fn is_refused(alloc: Global, bytes: &[u8]) -> bool {
+        matches!(read_script(alloc, bytes), Err(ScriptFault::Later))
+    }
+
+    #[test]
+    fn the_first_example_has_one_head_and_four_orders(rt: HostRuntime) {
+        let script = read_script(rt.alloc(), EXAMPLE).expect(&rt, "a script");
+        let [head] = script.heads.get() else {
+            panic!(rt; "one head");
+        };
+        assert_eq!(rt; head.name.get(), "q");
+        assert_eq!(rt; head.text.get(), "dogs bark");
+        let [orders] = script.clients.get() else {
+            panic!(rt; "one client");
+        };
+        let [adding, opening, running, printing] = orders.get() else {
+            panic!(rt; "four orders");
+        };
+        let Order::One(Command::AddDoc { name, body }) = adding else {
+            panic!(rt; "the document first");
+        };
+        assert_eq!(rt; name.get(), "d1");
+        assert_eq!(rt; body.get().len(), 170);
+        let Order::One(
+            Command::OpenSession {
+                name,
+                grammar,
+                limit,
+            },
+        ) = opening
+        else {
+            panic!(rt; "then the session");
+        };
+        assert_eq!(rt; name.get(), "s");
+        assert_eq!(rt; grammar.get(), "q");
+        assert_eq!(rt; *limit, 5);
+        assert!(rt; matches!(running, Order::Run(_)));
+        assert!(rt; matches!(printing, Order::One(Command::Print { .. })));
+    }
+
+    #[test]
+    fn a_last_line_without_its_line_feed_is_refused(rt: HostRuntime) {
+        let cut = &EXAMPLE[..EXAMPLE.len() - 1];
+        assert!(rt; is_refused(rt.alloc(), cut));
+    }
+
+    #[test]
+    fn no_bytes_are_refused(rt: HostRuntime) {
+        assert!(rt; is_refused(rt.alloc(), b""));
+    }
+
+    #[test]
+    fn limits_are_from_1_to_100(rt: HostRuntime) {
+        assert!(rt;
+            is_refused(
+                rt.alloc(),
+                b"query q a\nclient\ndoc d 0\nopen s q 0\nrun s\nprint s\n"
+            )
+        );
+        assert!(rt;
+            read_script(
+                rt.alloc(),
+                b"query q a\nclient\ndoc d 0\nopen s q 100\nrun s\nprint s\n"
+            )
+            .is_ok()
+        );
+        assert!(rt;
+            is_refused(
+                rt.alloc(),
+                b"query q a\nclient\ndoc d 0\nopen s q 101\nrun s\nprint s\n"
+            )
+        );
+    }
+
+    #[test]
+    fn a_document_is_any_bytes(rt: HostRuntime) {
+        assert!(rt;
+            read_script(
+                rt.alloc(),
+                b"query q a\nclient\ndoc d 1\n\xff\x00\nopen s q 1\nrun s\nprint s\n"
+            )
+            .is_ok()
+        );
     }
 }

@@ -1,4 +1,4 @@
-use Rattle.std.proofs.Common.{◌<◌, ◌≤◌, ◌^◌, arith}
+use Rattle.std.proofs.Common.{◌≤◌, ◌^◌, arith}
 use Rattle.od_serve.proofs.Scripts.{below_nine}
 use Rattle.od_serve.proofs.script.digits.Goals as goal
 
