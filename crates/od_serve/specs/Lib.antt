@@ -1,3 +1,6 @@
+-- The words of this crate, each named by a line `pub mod`.
+pub mod Cuts
 pub mod Hashes
 pub mod Known
+pub mod Scripts
 pub mod Stores

@@ -1,7 +1,9 @@
 //! The server: reads a script, answers its commands by the one-thread object, and writes the lines.
 #![tactic(auto)]
+mod cut;
 
 pub mod known;
 pub mod names;
 pub mod query;
+pub mod script;
 pub mod store;
