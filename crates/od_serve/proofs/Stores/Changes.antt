@@ -20,11 +20,11 @@ written name f xs i s d at found = let p = session-placed name xs i s d at (same
 pub written-back : (name : List ℕ) (f : SessionState → SessionState) (xs : List SessionState) (i : ℕ) (s t u : SessionState) → Distinct xs → slice_get xs i ≡ Some s → session_of name xs ≡ Some s → t ≡ get_or xs i t → u ≡ f t → slice_set xs i u ≡ change name f xs
 written-back name f xs i s t u d at found is becomes = ap (slice_set xs i) (becomes ∙ ap f (read-at xs i s t at is)) ∙ written name f xs i s d at found
 
--- a change that keeps names and numbers of documents
+-- a change that keeps names
 pub kept-change : (docs : List Doc) (doc_names : List (List ℕ)) (bytes sentences : ℕ) (sessions : List SessionState) (session_names : List (List ℕ)) (name : List ℕ) (f : SessionState → SessionState)
-    → ((s : SessionState) → (f s).name ≡ s.name) → ((s : SessionState) → (f s).documents ≡ s.documents)
+    → ((s : SessionState) → (f s).name ≡ s.name)
     → IsKept docs doc_names bytes sentences sessions session_names → IsKept docs doc_names bytes sentences (change name f sessions) session_names
-kept-change docs doc_names bytes sentences sessions session_names name f names documents h = record {
+kept-change docs doc_names bytes sentences sessions session_names name f names h = record {
   doc_names_are = h.doc_names_are;
   bytes_are = h.bytes_are;
   sentences_are = h.sentences_are;
@@ -34,5 +34,4 @@ kept-change docs doc_names bytes sentences sessions session_names name f names d
   session_names_are = h.session_names_are ∙ sym (names-change name f names sessions);
   distinct = Distinct-change name f names sessions h.distinct;
   few_sessions = subst (λ n. n ≤ 128) (sym (length-map sessions (change_one name f))) h.few_sessions;
-  within = Each-changed (λ s. s.documents ≤ length docs) name f (λ s w. subst (λ n. n ≤ length docs) (sym (documents s)) w) sessions h.within;
 }

@@ -2,7 +2,6 @@
 use Rattle.std.specs.Prelude.{◌≡◌, ℕ, ◌≤◌, List, length, map}
 use Rattle.od_model.specs.declared.doc.Doc.{Doc}
 use Rattle.od_model.specs.declared.object.SessionState.{SessionState}
-use Rattle.od_model.specs.Lists.{Each}
 use Rattle.od_model.specs.Object.Parts.{size_of, sentence_count, Distinct}
 
 -- the names of the documents and of the sessions stand in their order; the bytes and the sentences are counted
@@ -16,4 +15,3 @@ pub record IsKept (docs : List Doc) (doc_names : List (List ℕ)) (bytes sentenc
   pub session_names_are : session_names ≡ map (λ s. s.name) sessions
   pub distinct : Distinct sessions
   pub few_sessions : length sessions ≤ 128
-  pub within : Each (λ s. s.documents ≤ length docs) sessions

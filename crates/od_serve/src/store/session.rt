@@ -23,7 +23,7 @@ use std::marker::Model;
 #[derive(Drop)]
 pub struct Session {
     state: SessionState,
-    words: Vec<Text>,
+    words: List<Text>,
     known: Known,
     mentions: u32,
     weight: u64,
@@ -37,7 +37,7 @@ impl Model for Session {
 
     ghost view = { λ s. s.state };
 
-    ghost invariant = { λ s. IsRunning s.state s.words.items s.known s.mentions s.weight };
+    ghost invariant = { λ s. IsRunning s.state s.words s.known s.mentions s.weight };
 }
 
 /// Whether there is a last list, and it is empty.
@@ -88,7 +88,7 @@ impl Session {
         };
         Ok(Session {
             state,
-            words: query_words(alloc, &head.text)?,
+            words: query_words(alloc, head.text.get())?,
             known: Known::new(alloc),
             mentions: 0,
             weight: 0,

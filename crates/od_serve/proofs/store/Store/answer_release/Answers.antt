@@ -13,7 +13,7 @@ pub invariant_of-self : goal.invariant_of-self
 invariant_of-self c =
     let s = c.self.inside in
     subst (λ sessions. IsKept s.docs.items s.doc_names s.bytes s.sentences sessions s.session_names) (sym (in-place c))
-    (kept-change s.docs.items s.doc_names s.bytes s.sentences s.sessions.items s.session_names c.args.name.now let_go (λ t. refl) (λ t. refl) c.self.invariant)
+    (kept-change s.docs.items s.doc_names s.bytes s.sentences s.sessions.items s.session_names c.args.name.now let_go (λ t. refl) c.self.invariant)
 
 pub returns-clause-effect : goal.returns-clause-effect
 returns-clause-effect c heads = rw (← c.self.view_is) (ap (λ sessions. record { docs = c.self.inside.docs.items; sessions = sessions }) (in-place c))

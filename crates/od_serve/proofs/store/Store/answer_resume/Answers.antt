@@ -18,7 +18,7 @@ pub invariant_of-self-2 : goal.invariant_of-self-2
 invariant_of-self-2 c =
     let s = c.self.inside in
     subst (λ sessions. IsKept s.docs.items s.doc_names s.bytes s.sentences sessions s.session_names) (sym (in-place c))
-    (kept-change s.docs.items s.doc_names s.bytes s.sentences s.sessions.items s.session_names c.args.name.now (taken_by c.args.caller) (λ t. refl) (λ t. refl) c.self.invariant)
+    (kept-change s.docs.items s.doc_names s.bytes s.sentences s.sessions.items s.session_names c.args.name.now (taken_by c.args.caller) (λ t. refl) c.self.invariant)
 
 pub returns-clause-replies : goal.returns-clause-replies
 returns-clause-replies c =
