@@ -1,3 +1,4 @@
+pub mod Heads
 pub mod Kept
 pub mod Names
 pub mod Sessions

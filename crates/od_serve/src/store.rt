@@ -2,13 +2,14 @@
 ghost use Rattle.std.specs.Prelude.{◌≡◌};
 
 use crate::names::Names;
-use heads::is_known;
+use heads::{head_of, is_known};
+use od_model::conllu::ConlluFault;
 use od_model::doc::Doc;
 use od_model::grammar::Head;
 use od_model::history::{Refusal, Reply};
 use od_model::list::List;
 use od_model::mention::Mention;
-use od_model::text::{NoMemory, Text};
+use od_model::text::{Bytes, NoMemory, Text};
 use session::Session;
 use std::alloc::Global;
 use std::marker::Model;
@@ -40,13 +41,18 @@ impl Model for Store {
 }
 
 impl Store {
-    ghost use Rattle.std.specs.Prelude.{◌≡◌, MatchResult, MatchOption, IfOk, ℕ, List as Seq, Ok, Err, Some, None, slice_get, option_map, option_copied};
+    ghost use Rattle.std.specs.Prelude.{◌≡◌, ◌<◌, MatchResult, MatchOption, IfOk, OnOk, OnErr, ℕ, List as Seq, [], ◌∷◌, ◌++◌, length, Ok, Err, Some, None, false, slice_get, option_map};
     ghost use Rattle.od_model.specs.declared.object.SessionState.{SessionState as State};
     ghost use Rattle.od_model.specs.declared.grammar.Head.{Head as Headed};
-    ghost use Rattle.od_model.specs.declared.history.Command.TheVariants.{Resume as AsksResume, Release as AsksRelease, Settle as AsksSettle};
-    ghost use Rattle.od_model.specs.Object.Parts.{nothing, session_of};
+    ghost use Rattle.od_model.specs.declared.history.Command.TheVariants.{AddDoc as AsksAdd, OpenSession as AsksOpen, Resume as AsksResume, Release as AsksRelease, Settle as AsksSettle};
+    ghost use Rattle.od_model.specs.declared.history.Refusal.TheVariants.{Full};
+    ghost use Rattle.od_model.specs.Document.Faults.{doc_fault};
+    ghost use Rattle.od_model.specs.Document.Reading.{Reads};
+    ghost use Rattle.od_model.specs.Lists.{Each};
+    ghost use Rattle.od_model.specs.Object.Parts.{nothing, size_of, has_doc, is_full, session_of, has_session};
     ghost use Rattle.od_model.specs.Object.Effects.{effect_of};
-    ghost use Rattle.od_model.specs.Object.Replies.{held, reply_resume, reply_print, reply_release, Replies};
+    ghost use Rattle.od_model.specs.Object.Replies.{held, reply_doc, reply_open, reply_resume, reply_print, reply_release, Replies};
+    ghost use Rattle.od_serve.specs.Stores.Heads.{IsQueryHead};
 
     /// No document and no session.
     pub fn new(alloc: Global) -> Store
@@ -67,6 +73,37 @@ impl Store {
         ensures { result.now ≡ self.now.docs }
     {
         &self.docs
+    }
+
+    /// Whether a document of the name is committed.
+    fn has_doc(&self, name: &Text) -> bool
+        ensures { result ≡ has_doc self.now name.now }
+    {
+        self.doc_names.place(name).is_some()
+    }
+
+    /// Whether a session has the name.
+    fn has_session(&self, name: &Text) -> bool
+        ensures { result ≡ has_session self.now name.now }
+    {
+        self.session_names.place(name).is_some()
+    }
+
+    /// Whether a document of this size is too much: so many documents are there, or all bodies would have too many bytes.
+    fn is_full(&self, size: u32) -> bool
+        ensures { result ≡ is_full self.now size }
+    {
+        100_000 <= self.docs.len() || 134_217_728 < self.bytes + size as u64
+    }
+
+    /// The refusal of a document where there is no room.
+    fn full(&self) -> Refusal
+        ensures { result ≡ Full (length self.now.docs) (size_of self.now.docs) }
+    {
+        Refusal::Full {
+            documents: self.docs.len() as u32,
+            bytes: self.bytes,
+        }
     }
 
     /// The place of the session of a name.
@@ -139,6 +176,113 @@ impl Store {
         let session = &mut self.sessions[i];
         session.let_go();
         Reply::Released
+    }
+
+    /// One session more, whose name is new.
+    fn add_session(
+        &mut self,
+        alloc: Global,
+        name: &Text,
+        session: Session,
+    ) -> Result<(), NoMemory>
+        requires named { session.name ≡ name.now }
+        requires free { has_session self.old name.now ≡ false }
+        requires room { length self.old.sessions < 128 }
+        ensures ok { OnOk result (self.new ≡ record self.old { sessions = self.old.sessions ++ session ∷ [] }) }
+        ensures err { OnErr result (self.new ≡ self.old) }
+    {
+        let Ok(()) = self.sessions.reserve(1) else {
+            return Err(NoMemory);
+        };
+        self.session_names.push(alloc, name)?;
+        self.sessions.push_reserved(session);
+        Ok(())
+    }
+
+    /// One document more, whose name is new.
+    fn add_doc(&mut self, alloc: Global, doc: Doc) -> Result<(), NoMemory>
+        requires free { has_doc self.old doc.name ≡ false }
+        requires room { is_full self.old doc.size ≡ false }
+        ensures ok { OnOk result (self.new ≡ record self.old { docs = self.old.docs ++ doc ∷ [] }) }
+        ensures err { OnErr result (self.new ≡ self.old) }
+    {
+        let Ok(()) = self.docs.reserve(1) else {
+            return Err(NoMemory);
+        };
+        self.doc_names.push(alloc, &doc.name)?;
+        self.bytes += doc.size as u64;
+        self.sentences += doc.sentences.len() as u64;
+        self.docs.push_reserved(doc);
+        Ok(())
+    }
+
+    /// A session of one of the script's grammars, which the caller holds afterwards.
+    fn answer_open(
+        &mut self,
+        alloc: Global,
+        heads: &[Head],
+        caller: u32,
+        name: &Text,
+        grammar: &Text,
+        limit: u32,
+    ) -> Result<Reply, NoMemory>
+        requires { Each IsQueryHead heads.now }
+        ensures replies { IfOk result (λ reply. reply ≡ reply_open heads.now self.old name.now grammar.now limit) }
+        ensures effect { IfOk result (λ reply. self.new ≡ effect_of heads.now self.old caller (AsksOpen name.now grammar.now limit) reply) }
+        ensures err { OnErr result (self.new ≡ self.old) }
+    {
+        let Some(head) = head_of(heads, grammar) else {
+            return Ok(Reply::Refused(Refusal::NoGrammar));
+        };
+        if limit < 1 || 100 < limit {
+            return Ok(Reply::Refused(Refusal::BadLimit { limit }));
+        }
+        if self.has_session(name) {
+            return Ok(Reply::Refused(Refusal::Taken));
+        }
+        let count = self.sessions.len();
+        if 128 <= count {
+            return Ok(Reply::Refused(Refusal::NoRoom {
+                count: count as u32,
+            }));
+        }
+        let documents = self.docs.len() as u32;
+        let session = Session::open(alloc, name, head, documents, limit, caller)?;
+        self.add_session(alloc, name, session)?;
+        Ok(Reply::Opened { documents, limit })
+    }
+
+    /// The document that was read, or its first fault.
+    fn answer_read(
+        &mut self,
+        alloc: Global,
+        name: &Text,
+        body: &Bytes,
+        read: Result<Doc, ConlluFault>,
+    ) -> Result<Reply, NoMemory>
+        requires { MatchResult read (λ doc. Reads name.now body.now doc) (λ fault. doc_fault body.now ≡ Some fault) }
+        ensures replies { IfOk result (λ reply. reply ≡ reply_doc self.old name.now body.now) }
+        ensures effect { IfOk result (λ reply. (heads : Seq Headed) (caller : ℕ) → self.new ≡ effect_of heads self.old caller (AsksAdd name.now body.now) reply) }
+        ensures err { OnErr result (self.new ≡ self.old) }
+    {
+        let doc = match read {
+            Ok(doc) => doc,
+            Err(fault) => {
+                return Ok(Reply::Refused(Refusal::BadDoc {
+                    line: fault.line,
+                    kind: fault.kind,
+                }));
+            }
+        };
+        if self.has_doc(name) {
+            return Ok(Reply::Refused(Refusal::Duplicate));
+        }
+        if self.is_full(doc.size) {
+            return Ok(Reply::Refused(self.full()));
+        }
+        let documents = self.docs.len() as u32 + 1;
+        self.add_doc(alloc, doc)?;
+        Ok(Reply::Added { documents })
     }
 
     /// All sentences in one segment, or no segment where there is none.

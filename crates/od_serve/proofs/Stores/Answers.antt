@@ -1,5 +1,5 @@
 -- What is answered, from what was read.
-use Rattle.std.proofs.Common.{◌≡◌, ℕ, List, length, Some, None, Bool, true, cond, sym, ap, ◌∙◌}
+use Rattle.std.proofs.Common.{◌≡◌, ℕ, List, length, Some, None, true, cond, sym, ap, ◌∙◌}
 use Rattle.od_model.specs.declared.grammar.Head.{Head}
 use Rattle.od_model.specs.declared.history.Reply.{Reply}
 use Rattle.od_model.specs.declared.history.Reply.TheVariants.{Resumed, Refused}

@@ -1,14 +1,13 @@
 -- A change of the session of a name, made in place.
-use Rattle.std.proofs.Common.{◌≡◌, ℕ, ◌≤◌, List, map, slice_get, slice_set, get_or, Some, refl, sym, ap, ◌∙◌, subst, length, arith}
+use Rattle.std.proofs.Common.{◌≡◌, ℕ, ◌≤◌, List, slice_get, slice_set, get_or, Some, sym, ap, ◌∙◌, subst}
 use Rattle.std.proofs.lemmas.List.{length-map}
 use Rattle.od_model.specs.declared.doc.Doc.{Doc}
 use Rattle.od_model.specs.declared.object.SessionState.{SessionState}
-use Rattle.od_model.specs.Lists.{Each}
 use Rattle.od_model.specs.Object.Parts.{Distinct, is_named, session_of}
 use Rattle.od_model.specs.Object.Effects.{change, change_one}
 use Rattle.od_model.proofs.Lists.{find-passes}
-use Rattle.od_model.proofs.Objects.Names.{same-name, Distinct-change, Each-changed}
-use Rattle.od_model.proofs.Objects.Places.{session-placed, IsPlaced, names-change}
+use Rattle.od_model.proofs.Objects.Names.{same-name, Distinct-change}
+use Rattle.od_model.proofs.Objects.Places.{session-placed, names-change}
 use Rattle.od_serve.specs.Stores.Kept.{IsKept}
 use Rattle.od_serve.proofs.Stores.Places.{read-at}
 

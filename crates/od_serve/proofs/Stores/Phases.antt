@@ -1,8 +1,7 @@
 -- The phases of a session whose one rule runs from round 1 on.
-use Rattle.std.proofs.Common.{◌≡◌, ℕ, List, [], ◌∷◌, length, fold, Bool, true, false, cond, ◌&&◌, ◌==◌, refl, sym, ap, ◌∙◌, arith, nat_le}
+use Rattle.std.proofs.Common.{◌≡◌, ℕ, List, [], ◌∷◌, length, true, false, cond, ◌&&◌, ◌==◌, sym, ap, ◌∙◌, arith, nat_le}
 use Rattle.std.proofs.lemmas.Bool.{le-leb}
 use Rattle.od_model.specs.declared.mention.Mention.{Mention}
-use Rattle.od_model.specs.declared.history.Phase.{Phase}
 use Rattle.od_model.specs.declared.history.Phase.TheVariants.{Going, Finished, AtLimit}
 use Rattle.od_model.specs.Rounds.Phases.{ends_empty, phase}
 

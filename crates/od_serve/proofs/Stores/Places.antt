@@ -1,5 +1,5 @@
 -- Where the session of a name stands.
-use Rattle.std.proofs.Common.{◌≡◌, ℕ, zero, suc, ◌+◌, List, [], ◌∷◌, map, find, position, slice_get, get_or, length, MatchOption, Option, Some, None, Bool, true, false, cond, refl, sym, ap, ◌∙◌, subst, bytes_eq, arith, add-one}
+use Rattle.std.proofs.Common.{◌≡◌, ℕ, suc, ◌+◌, List, [], ◌∷◌, map, find, position, slice_get, get_or, length, MatchOption, Option, Some, None, Bool, true, false, cond, refl, sym, ap, ◌∙◌, subst, bytes_eq, arith}
 use Rattle.std.specs.List.{position_from}
 use Rattle.std.proofs.lemmas.Iterator.Adapters.{position_from-zero}
 use Rattle.std.proofs.lemmas.Option.{slice_get_read, slice_get_within}

@@ -1,7 +1,7 @@
-use Rattle.std.proofs.Common.{◌≡◌, ◌∙◌, None, ap, subst, sym, refl, slice_set, true, slice_get, Some, List}
+use Rattle.std.proofs.Common.{◌≡◌, ◌∙◌, None, ap, subst, sym, refl, slice_set, true}
 use Rattle.od_model.specs.declared.object.SessionState.{SessionState}
 use Rattle.od_model.specs.declared.history.Command.TheVariants.{Resume}
-use Rattle.od_model.specs.Object.Parts.{is_known, session_of}
+use Rattle.od_model.specs.Object.Parts.{is_known}
 use Rattle.od_model.specs.Object.Effects.{change, taken_by, effect_of}
 use Rattle.od_serve.specs.Stores.Kept.{IsKept}
 use Rattle.od_serve.proofs.Stores.Answers.{replies-resumed}
