@@ -1,2 +1,4 @@
 -- The lemmas of this crate, each named by a line `pub mod`.
 pub mod Notes
+pub mod Scans
+pub mod Walks

@@ -1,2 +1,4 @@
 pub mod Hashes
 pub mod Known
+pub mod Queries
+pub mod Walks

@@ -2,3 +2,5 @@
 #![tactic(auto)]
 
 pub mod known;
+pub mod scan;
+mod walk;
