@@ -2,5 +2,6 @@
 #![tactic(auto)]
 
 pub mod known;
+pub mod round;
 pub mod scan;
 mod walk;

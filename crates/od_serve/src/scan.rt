@@ -27,7 +27,13 @@ pub fn begin_with(words: &[Text], tokens: &[Token]) -> bool
 }
 
 /// The mention that a query makes of the tokens from the start to before the end, numbered from 0.
-fn make_mention(alloc: Global, document: u32, sentence: u32, start: u32, end: u32) -> Result<Mention, NoMemory>
+fn make_mention(
+    alloc: Global,
+    document: u32,
+    sentence: u32,
+    start: u32,
+    end: u32,
+) -> Result<Mention, NoMemory>
     ensures { IfOk result (λ m. m ≡ query_mention document sentence start end) }
 {
     Ok(Mention {
@@ -42,7 +48,13 @@ fn make_mention(alloc: Global, document: u32, sentence: u32, start: u32, end: u3
 }
 
 /// The mentions of a query of these folded words on a sentence, numbered from 0 within its document. The search goes on behind each of them.
-pub fn mentions_of(alloc: Global, words: &[Text], document: u32, number: u32, sentence: &Sentence) -> Result<Vec<Mention>, NoMemory>
+pub fn mentions_of(
+    alloc: Global,
+    words: &[Text],
+    document: u32,
+    number: u32,
+    sentence: &Sentence,
+) -> Result<Vec<Mention>, NoMemory>
     requires { 0 < length words.now }
     ensures { IfOk result (λ found. (state : Seq Found) → rule_mentions (words_rule words.now) document number sentence.now state ≡ mentions found.items) }
 {

@@ -17,6 +17,7 @@ use std::slice;
 const MOST_WEIGHT: u64 = 100_000;
 
 /// The mentions of a session before a round, all of them noted.
+#[derive(Drop)]
 pub struct Earlier<'a> {
     pub rounds: &'a [List<Mention>],
     pub known: &'a Known,
@@ -26,10 +27,10 @@ pub struct Earlier<'a> {
 /// What a round has found so far, all of it noted, and what it weighs together with the mentions before.
 #[derive(Drop)]
 pub struct Walk {
-    found: List<Mention>,
-    fresh: Known,
-    total: u64,
-    ghost noted: { IsComplete fresh (found ∷ []) },
+    pub found: List<Mention>,
+    pub fresh: Known,
+    pub total: u64,
+    pub ghost noted: { IsComplete fresh (found ∷ []) },
 }
 
 impl Earlier<'_> {
@@ -84,7 +85,12 @@ impl Walk {
     }
 
     /// Meets a mention: a new one is added. Gives the weight that is too great, if it is with this one.
-    fn meet(&mut self, alloc: Global, earlier: &Earlier, mention: Mention) -> Result<Option<u64>, NoMemory>
+    fn meet(
+        &mut self,
+        alloc: Global,
+        earlier: &Earlier,
+        mention: Mention,
+    ) -> Result<Option<u64>, NoMemory>
         requires { IsWeighed (joined earlier.now.rounds.now) self.old.found self.old.total }
         ensures weighed { IsWeighed (joined earlier.now.rounds.now) self.new.found self.new.total }
         ensures met { IfOk result (λ heavy. walked (joined earlier.now.rounds.now) (Found self.old.found) (one mention) ≡ result_of heavy self.new.found) }
@@ -102,7 +108,12 @@ impl Walk {
     }
 
     /// Meets mentions in their order, up to one with which the weight is too great.
-    pub fn meet_all(&mut self, alloc: Global, earlier: &Earlier, mentions: Vec<Mention>) -> Result<Option<u64>, NoMemory>
+    pub fn meet_all(
+        &mut self,
+        alloc: Global,
+        earlier: &Earlier,
+        mentions: Vec<Mention>,
+    ) -> Result<Option<u64>, NoMemory>
         requires { IsWeighed (joined earlier.now.rounds.now) self.old.found self.old.total }
         ensures weighed { IsWeighed (joined earlier.now.rounds.now) self.new.found self.new.total }
         ensures met { IfOk result (λ heavy. fold (walked (joined earlier.now.rounds.now)) (Found self.old.found) (map one mentions.items) ≡ result_of heavy self.new.found) }

@@ -1,5 +1,4 @@
 -- The mention is noted before it is added.
-use Rattle.std.proofs.Common.{refl}
 use Rattle.od_serve.proofs.Walks.{added_noted}
 use Rattle.od_serve.proofs.walk.Walk.add.Goals as goal
 
