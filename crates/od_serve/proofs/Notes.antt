@@ -1,21 +1,20 @@
 -- Notes of where mentions stand find them.
-use Rattle.std.proofs.Common.{◌≡◌, ℕ, zero, suc, List, [], ◌∷◌, ◌++◌, length, Option, Some, None, Bool, true, false, cond, refl, sym, ap, ap₂, ◌∙◌, subst, inl, inr, ◌⊎◌}
+use Rattle.std.proofs.Common.{◌≡◌, ℕ, zero, suc, List, [], ◌∷◌, ◌++◌, length, Option, Some, None, Bool, true, false, cond, eqb, refl, sym, ap, ap₂, ◌∙◌, subst, inl, inr, ◌⊎◌}
 use Rattle.std.specs.Prelude.{nat_eq, slice_get}
-use Rattle.std.specs.List.{list_any, Contains}
-use Rattle.std.proofs.lemmas.Bool.{or_cases, or_left, or_right, eq-eqb}
+use Rattle.std.specs.List.{list_any}
+use Rattle.std.proofs.lemmas.Bool.{or_cases, or_left, or_right, and_parts, and_from, eqb-true, eq-eqb}
 use Rattle.std.proofs.lemmas.Bool.Decides.{same_from_decides}
-use Rattle.std.proofs.lemmas.List.Elements.{Contains-append_left, Contains-push}
-use Rattle.std.proofs.lemmas.List.Folds.{list_any_at}
+use Rattle.std.proofs.lemmas.List.Folds.{list_any_at, list_any-append}
 use Rattle.std.proofs.lemmas.Option.{slice_get_within, get_or_from_slice_get}
 use Rattle.od_model.specs.declared.mention.Mention.{Mention}
 use Rattle.od_model.specs.Matching.Mentions.{same_mention, is_among}
 use Rattle.od_model.specs.Rounds.Round.{joined}
-use Rattle.od_model.proofs.Rounds.Sameness.{mention-Decides}
+use Rattle.od_model.proofs.Matching.Sameness.{mention-Decides}
 use Rattle.od_model.proofs.Rounds.Distinct.{is_among-append}
 use Rattle.od_serve.specs.declared.known.Place.{Place}
 use Rattle.od_serve.specs.declared.known.Known.{Known}
 use Rattle.od_serve.specs.Hashes.{mention_hash}
-use Rattle.od_serve.specs.Known.{noted, mention_at, is_same, has_at, IsComplete}
+use Rattle.od_serve.specs.Known.{noted, mention_at, is_same, has_at, same_place, is_noted, IsComplete}
 
 -- the place of this round and index
 abbrev pub place : ℕ → ℕ → Place
@@ -74,8 +73,19 @@ find_stands (l ∷ ls) m h =
       | inr there ↦ let s = find_stands ls m there in record { round = suc s.round; index = s.index; other = s.other; at = s.at; same = s.same }
     ]
 
-any_contained : (p : Place → Bool) (places : List Place) (at : Place) → Contains places at → p at ≡ true → list_any p places ≡ true
-any_contained p places at h e = list_any_at p places h.0 at h.1 (ap p h.2 ∙ e)
+place_same : (p q : Place) → same_place p q ≡ true → p ≡ q
+place_same p q e = let parts = and_parts (eqb p.round q.round) (eqb p.index q.index) e in ap₂ place (eqb-true p.round q.round parts.0) (eqb-true p.index q.index parts.1)
+
+same_itself : (p : Place) → same_place p p ≡ true
+same_itself p = and_from (eqb p.round p.round) (eqb p.index p.index) (eq-eqb p.round p.round refl) (eq-eqb p.index p.index refl)
+
+any_noted : (test : Place → Bool) (places : List Place) (at : Place) → list_any (same_place at) places ≡ true → test at ≡ true → list_any test places ≡ true
+any_noted test [] at h e = absurd (let q : false ≡ true = h in cc)
+any_noted test (p ∷ ps) at h e =
+    elim (or_cases (same_place at p) (list_any (same_place at) ps) h) [
+      | inl here ↦ or_left (test p) (list_any test ps) (ap test (sym (place_same at p here)) ∙ e)
+      | inr there ↦ or_right (test p) (list_any test ps) (any_noted test ps at there e)
+    ]
 
 among_any : (known : Known) (rounds : List (List Mention)) (m : Mention) → IsComplete known rounds → is_among (joined rounds) m ≡ true
     → list_any (has_at rounds m) (noted known (mention_hash m)) ≡ true
@@ -83,8 +93,8 @@ among_any known rounds m c h =
     let s = find_stands rounds m h in
     let at : Place = place s.round s.index in
     let same : m ≡ s.other = (mention-Decides m s.other).0 s.same in
-    let there : Contains (noted known (mention_hash m)) at = subst (λ n. Contains (noted known (mention_hash n)) at) (sym same) (c.notes at s.other s.at) in
-    any_contained (has_at rounds m) (noted known (mention_hash m)) at there (ap (is_same m) s.at ∙ s.same)
+    let there : is_noted known (mention_hash m) at ≡ true = ap (λ n. is_noted known (mention_hash n) at) same ∙ c.notes at s.other s.at in
+    any_noted (has_at rounds m) (noted known (mention_hash m)) at there (ap (is_same m) s.at ∙ s.same)
 
 -- a mention stands at one of the places under its hash exactly where it is among the mentions
 pub found_by_notes : (known : Known) (rounds : List (List Mention)) (m : Mention) → IsComplete known rounds
@@ -133,18 +143,20 @@ at_more (l ∷ ls) taken m n (suc r) i e =
 abbrev pub NotesOne : Known → Known → Mention → Place → Type 0
 NotesOne before after m p = (hash : ℕ) → noted after hash ≡ cond (nat_eq (mention_hash m) hash) (noted before hash ++ p ∷ []) (noted before hash)
 
-kept_under : (b : Bool) (xs : List Place) (p q : Place) → Contains xs q → Contains (cond b (xs ++ p ∷ []) xs) q
-kept_under true xs p q h = Contains-append_left xs (p ∷ []) q h
+kept_under : (b : Bool) (xs : List Place) (p q : Place) → list_any (same_place q) xs ≡ true → list_any (same_place q) (cond b (xs ++ p ∷ []) xs) ≡ true
+kept_under true xs p q h = list_any-append (same_place q) xs (p ∷ []) ∙ or_left (list_any (same_place q) xs) (list_any (same_place q) (p ∷ [])) h
 kept_under false xs p q h = h
 
-kept_note : (before after : Known) (m : Mention) (p : Place) → NotesOne before after m p → (hash : ℕ) (q : Place) → Contains (noted before hash) q → Contains (noted after hash) q
-kept_note before after m p says hash q h = subst (λ xs. Contains xs q) (sym (says hash)) (kept_under (nat_eq (mention_hash m) hash) (noted before hash) p q h)
+kept_note : (before after : Known) (m : Mention) (p : Place) → NotesOne before after m p → (hash : ℕ) (q : Place) → is_noted before hash q ≡ true → is_noted after hash q ≡ true
+kept_note before after m p says hash q h = ap (list_any (same_place q)) (says hash) ∙ kept_under (nat_eq (mention_hash m) hash) (noted before hash) p q h
 
-new_note : (before after : Known) (m : Mention) (p : Place) → NotesOne before after m p → Contains (noted after (mention_hash m)) p
+new_note : (before after : Known) (m : Mention) (p : Place) → NotesOne before after m p → is_noted after (mention_hash m) p ≡ true
 new_note before after m p says =
     let h = mention_hash m in
     let e : noted after h ≡ noted before h ++ p ∷ [] = says h ∙ ap (λ b. cond b (noted before h ++ p ∷ []) (noted before h)) (eq-eqb h h refl) in
-    subst (λ xs. Contains xs p) (sym e) (Contains-push (noted before h) p)
+    ap (list_any (same_place p)) e
+    ∙ list_any-append (same_place p) (noted before h) (p ∷ [])
+    ∙ or_right (list_any (same_place p) (noted before h)) (list_any (same_place p) (p ∷ [])) (or_left (same_place p p) false (same_itself p))
 
 -- no mention loses its note
 pub complete_kept : (before after : Known) (m : Mention) (p : Place) (rounds : List (List Mention)) → NotesOne before after m p → IsComplete before rounds → IsComplete after rounds
@@ -152,7 +164,7 @@ complete_kept before after m p rounds says c = record { notes = λ q n e. kept_n
 
 -- where nothing is noted, all stays complete
 pub complete_same : (before after : Known) (rounds : List (List Mention)) → ((hash : ℕ) → noted after hash ≡ noted before hash) → IsComplete before rounds → IsComplete after rounds
-complete_same before after rounds says c = record { notes = λ q n e. subst (λ xs. Contains xs q) (sym (says (mention_hash n))) (c.notes q n e) }
+complete_same before after rounds says c = record { notes = λ q n e. ap (list_any (same_place q)) (says (mention_hash n)) ∙ c.notes q n e }
 
 -- the last round has one mention more, and its place is noted
 pub complete_more : (before after : Known) (rounds : List (List Mention)) (taken : List Mention) (m : Mention) (p : Place)
@@ -164,6 +176,6 @@ complete_more before after rounds taken m p is says c = record {
         | inl old ↦ kept_note before after m p says (mention_hash n) q (c.notes q n old)
         | inr new ↦
             let same : p ≡ q = is ∙ sym (ap₂ place new.0 new.1) in
-            subst (λ x. Contains (noted after (mention_hash x)) q) new.2 (subst (λ x. Contains (noted after (mention_hash m)) x) same (new_note before after m p says))
+            subst (λ x. is_noted after (mention_hash x) q ≡ true) new.2 (subst (λ x. is_noted after (mention_hash m) x ≡ true) same (new_note before after m p says))
       ];
 }

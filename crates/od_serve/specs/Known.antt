@@ -1,7 +1,7 @@
 -- Notes of where the mentions of a session's rounds stand.
-use Rattle.std.specs.Prelude.{◌≡◌, ℕ, Bool, false, List, [], Option, Some, None, unwrap_or, nat_eq, slice_get, slice_index_or}
+use Rattle.std.specs.Prelude.{◌≡◌, ℕ, ◌==◌, Bool, true, false, ◌&&◌, List, [], Option, Some, None, unwrap_or, nat_eq, slice_get, slice_index_or}
 use Rattle.std.specs.HashMap.{get}
-use Rattle.std.specs.List.{Contains}
+use Rattle.std.specs.List.{list_any}
 use Rattle.od_model.specs.declared.mention.Mention.{Mention}
 use Rattle.od_model.specs.Matching.Mentions.{same_mention}
 use Rattle.od_serve.specs.declared.known.Place.{Place}
@@ -25,6 +25,14 @@ is_same m (Some other) = same_mention m other
 abbrev pub has_at : List (List Mention) → Mention → Place → Bool
 has_at rounds m place = is_same m (mention_at rounds place)
 
+-- the same round and index
+abbrev pub same_place : Place → Place → Bool
+same_place p q = p.round == q.round && p.index == q.index
+
+-- the place is noted under the hash
+abbrev pub is_noted : Known → ℕ → Place → Bool
+is_noted known hash place = list_any (same_place place) (noted known hash)
+
 -- each mention of the rounds is noted
 pub record IsComplete (known : Known) (rounds : List (List Mention)) : Type 0 where
-  pub notes : (place : Place) (m : Mention) → mention_at rounds place ≡ Some m → Contains (noted known (mention_hash m)) place
+  pub notes : (place : Place) (m : Mention) → mention_at rounds place ≡ Some m → is_noted known (mention_hash m) place ≡ true

@@ -5,7 +5,7 @@ use Rattle.std.proofs.lemmas.List.Sums.{fold-append}
 use Rattle.std.proofs.lemmas.Bool.{or_left}
 use Rattle.od_model.specs.declared.mention.Mention.{Mention}
 use Rattle.od_model.specs.Matching.Mentions.{same_mention, is_among, with_new, distinct}
-use Rattle.od_model.proofs.Rounds.Sameness.{mention-Decides}
+use Rattle.od_model.proofs.Matching.Sameness.{mention-Decides}
 
 -- among the mentions of two lists
 pub is_among-append : (xs ys : List Mention) (m : Mention) → is_among (xs ++ ys) m ≡ (is_among xs m || is_among ys m)

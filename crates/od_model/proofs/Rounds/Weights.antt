@@ -2,7 +2,7 @@
 use Rattle.std.proofs.Common.{◌≡◌, ℕ, ◌+◌, ◌≤◌, List, [], ◌∷◌, ◌++◌, fold, Bool, true, false, cond, refl, sym, ap, ◌∙◌, subst, append_assoc, append-nil, arith}
 use Rattle.std.specs.Prelude.{nat_lt, length}
 use Rattle.std.proofs.lemmas.Bool.{ltb-false}
-use Rattle.std.proofs.lemmas.List.Sums.{sum_by-append}
+use Rattle.std.proofs.lemmas.List.Sums.{sum_by-append, sum_by-cons}
 use Rattle.od_model.specs.declared.doc.Doc.{Doc}
 use Rattle.od_model.specs.declared.grammar.Grammar.{Grammar}
 use Rattle.od_model.specs.declared.mention.Mention.{Mention}
@@ -15,6 +15,11 @@ use Rattle.od_model.specs.Rounds.Round.{Item, one, crowd, items, weighed, walked
 -- two lists weigh as much as both
 pub weight-append : (xs ys : List Mention) → weight (xs ++ ys) ≡ weight xs + weight ys
 weight-append xs ys = sum_by-append (λ (m : Mention). 1 + length m.parts) xs ys
+
+-- no list has more mentions than it weighs
+pub length-le-weight : (ms : List Mention) → length ms ≤ weight ms
+length-le-weight [] = omega arith
+length-le-weight (m ∷ ms) = omega (arith, length-le-weight ms, sum_by-cons (λ (x : Mention). 1 + length x.parts) m ms)
 
 -- a mention more weighs one and the number of its parts more
 pub weight-more : (old new : List Mention) (m : Mention) → weight (old ++ (new ++ m ∷ [])) ≡ weight (old ++ new) + (1 + length m.parts)
