@@ -2,5 +2,5 @@ pub mod Added
 pub mod Answers
 pub mod Changes
 pub mod Names
-pub mod Phases
 pub mod Places
+pub mod Steps

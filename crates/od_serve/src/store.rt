@@ -44,14 +44,14 @@ impl Store {
     ghost use Rattle.std.specs.Prelude.{◌≡◌, ◌<◌, MatchResult, MatchOption, IfOk, OnOk, OnErr, ℕ, List as Seq, [], ◌∷◌, ◌++◌, length, Ok, Err, Some, None, false, slice_get, option_map};
     ghost use Rattle.od_model.specs.declared.object.SessionState.{SessionState as State};
     ghost use Rattle.od_model.specs.declared.grammar.Head.{Head as Headed};
-    ghost use Rattle.od_model.specs.declared.history.Command.TheVariants.{AddDoc as AsksAdd, OpenSession as AsksOpen, Resume as AsksResume, Release as AsksRelease, Settle as AsksSettle};
+    ghost use Rattle.od_model.specs.declared.history.Command.TheVariants.{AddDoc as AsksAdd, OpenSession as AsksOpen, Step as AsksStep, Resume as AsksResume, Release as AsksRelease, Settle as AsksSettle};
     ghost use Rattle.od_model.specs.declared.history.Refusal.TheVariants.{Full};
     ghost use Rattle.od_model.specs.Document.Faults.{doc_fault};
     ghost use Rattle.od_model.specs.Document.Reading.{Reads};
     ghost use Rattle.od_model.specs.Lists.{Each};
     ghost use Rattle.od_model.specs.Object.Parts.{nothing, size_of, has_doc, is_full, session_of, has_session};
     ghost use Rattle.od_model.specs.Object.Effects.{effect_of};
-    ghost use Rattle.od_model.specs.Object.Replies.{held, reply_doc, reply_open, reply_resume, reply_print, reply_release, Replies};
+    ghost use Rattle.od_model.specs.Object.Replies.{held, reply_doc, reply_open, reply_step, reply_resume, reply_print, reply_release, Replies};
     ghost use Rattle.od_serve.specs.Stores.Heads.{IsQueryHead};
 
     /// No document and no session.
@@ -135,6 +135,21 @@ impl Store {
         Some(self.sessions[i].state().rounds.get())
     }
 
+    /// One round more of the session, where the caller holds it.
+    fn answer_step(&mut self, alloc: Global, caller: u32, name: &Text) -> Result<Reply, NoMemory>
+        ensures replies { IfOk result (λ reply. reply ≡ reply_step self.old (held self.old caller name.now)) }
+        ensures effect { IfOk result (λ reply. (heads : Seq Headed) → self.new ≡ effect_of heads self.old caller (AsksStep name.now) reply) }
+        ensures err { OnErr result (self.new ≡ self.old) }
+    {
+        let i = match self.held(caller, name) {
+            Ok(i) => i,
+            Err(refusal) => return Ok(Reply::Refused(refusal)),
+        };
+        let session = &mut self.sessions[i];
+        let reply = session.step(alloc, &self.docs)?;
+        Ok(reply)
+    }
+
     /// The caller holds the session afterwards, where nobody held it and its grammar is one of the script's.
     fn answer_resume(&mut self, heads: &[Head], caller: u32, name: &Text) -> Reply
         ensures replies { result ≡ reply_resume heads.now (session_of name.now self.old.sessions) }
@@ -179,12 +194,7 @@ impl Store {
     }
 
     /// One session more, whose name is new.
-    fn add_session(
-        &mut self,
-        alloc: Global,
-        name: &Text,
-        session: Session,
-    ) -> Result<(), NoMemory>
+    fn add_session(&mut self, alloc: Global, name: &Text, session: Session) -> Result<(), NoMemory>
         requires named { session.name ≡ name.now }
         requires free { has_session self.old name.now ≡ false }
         requires room { length self.old.sessions < 128 }

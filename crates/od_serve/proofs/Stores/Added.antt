@@ -62,7 +62,7 @@ module _ (docs : List Doc) (doc_names : List (List ℕ)) (bytes sentences : ℕ)
     few_sessions = omega (arith, length_push sessions s);
   }
 
--- ## One document more
+  -- ## One document more
 
   few-sentences : (ss : List Sentence) → length ss ≤ weight_of ss
   few-sentences [] = omega arith

@@ -95,8 +95,8 @@ module _ {Y : Type 0} where
   pub listed_put : (key : String Y) (es put : List (String Y × ℕ)) → IsNumbered es → lookup (is_at (string_cmp key)) es ≡ None → put ≡ insert_entry string_cmp es key (length es) → length put ≡ length es + 1 → listed put ≡ listed es ++ string_bytes key ∷ []
   listed_put key es put h none is more = ap (λ n. names_below n put) (more ∙ add-one (length es))
       ∙ ap₂ (λ ns name. ns ++ name ∷ [])
-        (ap (names_below (length es)) is ∙ names_put (length es) (length es) key (omega arith) es none)
-        (ap (name_at (length es)) is ∙ at_new (length es) (length es) key (omega arith) es h.below none)
+      (ap (names_below (length es)) is ∙ names_put (length es) (length es) key (omega arith) es none)
+      (ap (name_at (length es)) is ∙ at_new (length es) (length es) key (omega arith) es h.below none)
 
   length_below : (n : ℕ) (es : List (String Y × ℕ)) → length (names_below n es) ≡ n
   length_below zero es = refl

@@ -27,7 +27,5 @@ pub fn head_of<'a>(heads: &'a [Head], name: &Text) -> Option<&'a Head>
 pub fn is_known(heads: &[Head], state: &SessionState) -> bool
     ensures { result ≡ is_known heads.now state.now }
 {
-    heads
-        .iter()
-        .any(|head| same_kind(head.kind, state.kind) && head.text.same(&state.text))
+    heads.iter().any(|head| same_kind(head.kind, state.kind) && head.text.same(&state.text))
 }

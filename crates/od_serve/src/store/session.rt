@@ -1,19 +1,24 @@
 //! A session that runs.
-ghost use Rattle.std.specs.Prelude.{◌≡◌, ◌≤◌, length, map, MatchResult, IfOk, Ok, Err, Some, []};
+ghost use Rattle.std.specs.Prelude.{◌≡◌, ◌<◌, ◌≤◌, List as Seq, [], ◌∷◌, ◌++◌, length, MatchResult, IfOk, OnOk, OnErr, Ok, Err, Some};
+ghost use Rattle.od_model.specs.declared.doc.Doc.{Doc as Document};
+ghost use Rattle.od_model.specs.declared.mention.RoundResult.TheVariants.{Found};
+ghost use Rattle.od_model.specs.declared.history.Phase.TheVariants.{Going};
 ghost use Rattle.od_model.specs.declared.history.Reply.TheVariants.{Resumed};
 ghost use Rattle.od_model.specs.Grammars.Query.{grammar_of, query_grammar};
 ghost use Rattle.od_model.specs.Rounds.Round.{joined};
-ghost use Rattle.od_model.specs.Rounds.Phases.{ends_empty, phase};
-ghost use Rattle.od_model.specs.Object.Parts.{phase_with};
+ghost use Rattle.od_model.specs.Object.Parts.{phase_with, round_at};
 ghost use Rattle.od_model.specs.Object.Effects.{taken_by, let_go};
-ghost use Rattle.od_model.specs.Object.Replies.{held_as, reply_print};
+ghost use Rattle.od_model.specs.Object.Replies.{held_as, reply_print, reply_round};
+ghost use Rattle.od_serve.specs.Stores.Steps.{step_reply, after_step};
 
 use crate::known::Known;
 use crate::query::query_words;
+use crate::round::{next_round, phase_after, phase_of, weigh};
+use od_model::doc::Doc;
 use od_model::grammar::Head;
 use od_model::history::{Phase, Refusal, Reply};
 use od_model::list::List;
-use od_model::mention::Mention;
+use od_model::mention::{Mention, RoundResult};
 use od_model::object::SessionState;
 use od_model::text::{Copied, NoMemory, Text};
 use std::alloc::Global;
@@ -38,29 +43,6 @@ impl Model for Session {
     ghost view = { λ s. s.state };
 
     ghost invariant = { λ s. IsRunning s.state s.words s.known s.mentions s.weight };
-}
-
-/// Whether there is a last list, and it is empty.
-fn has_ended(lists: &[List<Mention>]) -> bool
-    ensures { result ≡ ends_empty lists.now }
-{
-    match lists.last() {
-        None => false,
-        Some(list) => list.len() == 0,
-    }
-}
-
-/// Whether a session goes on that had these lists, one a round, and has one rule, which runs from round 1 on.
-fn phase_of(lists: &[List<Mention>], limit: u32) -> Phase
-    ensures { result ≡ phase 1 limit lists.now }
-{
-    if has_ended(lists) {
-        return Phase::Finished;
-    }
-    if lists.len() == limit as usize {
-        return Phase::AtLimit;
-    }
-    Phase::Going
 }
 
 impl Session {
@@ -122,7 +104,7 @@ impl Session {
     pub fn phase(&self) -> Phase
         ensures { result ≡ phase_with self.now self.now.rounds }
     {
-        phase_of(self.state.rounds.get(), self.state.limit)
+        phase_of(&self.state)
     }
 
     /// The number of rounds.
@@ -154,6 +136,74 @@ impl Session {
             mentions: self.mentions,
             phase: self.phase(),
         }
+    }
+
+    /// One round more, where the rounds go on. Where it is refused, or memory is, the session stays as it was.
+    pub fn step(&mut self, alloc: Global, docs: &[Doc]) -> Result<Reply, NoMemory>
+        ensures replies { IfOk result (λ reply. reply ≡ step_reply docs.now self.old) }
+        ensures effect { IfOk result (λ reply. self.new ≡ after_step docs.now self.old reply) }
+        ensures err { OnErr result (self.new ≡ self.old) }
+    {
+        let round = self.round();
+        match self.phase() {
+            Phase::Finished => return Ok(Reply::Refused(Refusal::Finished { round })),
+            Phase::AtLimit => return Ok(Reply::Refused(Refusal::AtLimit { round })),
+            Phase::Going => {}
+        }
+        match self.next_round(alloc, docs)? {
+            RoundResult::Crowded {
+                rule,
+                document,
+                sentence,
+                count,
+            } => Ok(Reply::Refused(Refusal::Crowded {
+                rule,
+                document,
+                sentence,
+                count,
+            })),
+            RoundResult::TooMany { weight } => Ok(Reply::Refused(Refusal::TooMany { weight })),
+            RoundResult::Found(new) => self.add_round(alloc, new),
+        }
+    }
+
+    /// What the next round gives.
+    fn next_round(&self, alloc: Global, docs: &[Doc]) -> Result<RoundResult, NoMemory>
+        ensures { IfOk result (λ r. r ≡ round_at docs.now self.now) }
+    {
+        next_round(
+            alloc,
+            docs,
+            &self.state,
+            self.words.get(),
+            &self.known,
+            self.weight,
+        )
+    }
+
+    /// Adds what the next round found, and answers so.
+    fn add_round(&mut self, alloc: Global, new: List<Mention>) -> Result<Reply, NoMemory>
+        requires found { (docs : Seq Document) × (round_at docs self.old ≡ Found new) }
+        requires going { phase_with self.old self.old.rounds ≡ Going }
+        ensures replies { IfOk result (λ reply. reply ≡ reply_round self.old (Found new)) }
+        ensures effect { OnOk result (self.new ≡ record self.old { rounds = self.old.rounds ++ new ∷ [] }) }
+        ensures err { OnErr result (self.new ≡ self.old) }
+    {
+        let round = self.state.rounds.len() as u32 + 1;
+        let added = new.len() as u32;
+        let reply = Reply::Stepped {
+            round,
+            added,
+            phase: phase_after(&self.state, new.get()),
+        };
+        let mentions = self.mentions + added;
+        let weight = self.weight + weigh(new.get());
+        self.known
+            .extend(alloc, self.state.rounds.get(), new.get())?;
+        self.state.rounds.push(new)?;
+        self.mentions = mentions;
+        self.weight = weight;
+        Ok(reply)
     }
 
     /// The caller holds the session from now on.
