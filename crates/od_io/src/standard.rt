@@ -15,7 +15,10 @@ pub struct StdSource {
 impl StdSource {
     /// Standard input, of which no read failed yet.
     pub fn new(input: Stdin) -> StdSource {
-        StdSource { input, faults: FaultCount::new() }
+        StdSource {
+            input,
+            faults: FaultCount::new(),
+        }
     }
 }
 
@@ -93,5 +96,28 @@ impl Sink for StdSink {
             return Err(Failed);
         }
         Ok(taken)
+    }
+}
+
+#[cfg(test)]
+mod tests {
+    use super::*;
+    use std::test::Fail;
+
+    #[test]
+    fn standard_output_takes_bytes(rt: HostRuntime) -> Result<(), Fail> {
+        let mut output = StdSink::output(rt.stdout());
+        assert_eq!(rt; output.write(b"written to standard output\n"), Ok(27));
+        let mut error = StdSink::error(rt.stderr());
+        assert_eq!(rt; error.write(b"written to standard error\n"), Ok(26));
+        Ok(())
+    }
+
+    #[test]
+    fn standard_input_gives_bytes_or_ends(rt: HostRuntime) -> Result<(), Fail> {
+        let mut input = StdSource::new(rt.stdin());
+        let mut into = [0; 8];
+        assert!(rt; input.read(&mut into)? <= 8);
+        Ok(())
     }
 }
