@@ -73,7 +73,7 @@ impl Sink for MemSink {
         // A write fails once the sink is full, and only then. Before, it takes all that there is
         // room for.
         ensures full { IsErr result ↔ (length self.old.written ≡ self.old.room) }
-        ensures most { IfOk result (λ n. n ≡ min (length piece.now) (self.old.room - length self.old.written)) }
+        ensures amount { IfOk result (λ n. n ≡ min (length piece.now) (self.old.room - length self.old.written)) }
         ensures room { self.new.room ≡ self.old.room }
 
         // The count rises exactly where a write failed.

@@ -81,7 +81,7 @@ impl Source for MemSource {
 
         // A listed read fails, and only that. Every other one gives as many bytes as fit.
         ensures listed { IsErr result ↔ Contains self.old.failing self.old.calls }
-        ensures most { IfOk result (λ n. n ≡ min (length into.old) (length self.old.left)) }
+        ensures amount { IfOk result (λ n. n ≡ min (length into.old) (length self.old.left)) }
 
         // The count rises exactly where a read failed.
         ensures faults { MatchResult result (λ _. self.new.faults ≡ self.old.faults) (λ _. self.new.faults ≡ count_up self.old.faults) }
@@ -94,7 +94,8 @@ impl Source for MemSource {
             self.faults.rise();
             return Err(Failed);
         }
-        let rest = &self.bytes.get()[self.at..];
+        let bytes = self.bytes.get();
+        let rest = &bytes[self.at..];
         let n = rest.len().min(into.len());
         into[..n].copy_from_slice(&rest[..n]);
         self.at += n;

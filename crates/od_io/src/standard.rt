@@ -1,5 +1,6 @@
-//! Standard input, output and error. What passes through them is told by no clause.
-ghost use Rattle.std.specs.Prelude.{◌≤◌, length, None};
+//! Standard input, output and error. What passes through them is told by no clause. A call that
+//! a signal cut off counts as failed.
+ghost use Rattle.std.specs.Prelude.{◌≡◌, ◌≤◌, length, None};
 
 use super::count::FaultCount;
 use super::streams::{Failed, Sink, Source};
@@ -14,7 +15,9 @@ pub struct StdSource {
 
 impl StdSource {
     /// Standard input, of which no read failed yet.
-    pub fn new(input: Stdin) -> StdSource {
+    pub fn new(input: Stdin) -> StdSource
+        ensures { ⟦<StdSource as Source>⟧.faults result ≡ 0 }
+    {
         StdSource {
             input,
             faults: FaultCount::new(),
@@ -67,7 +70,9 @@ pub struct StdSink {
 
 impl StdSink {
     /// Standard output, of which no write failed yet.
-    pub fn output(stdout: Stdout) -> StdSink {
+    pub fn output(stdout: Stdout) -> StdSink
+        ensures { ⟦<StdSink as Sink>⟧.faults result ≡ 0 }
+    {
         StdSink {
             stream: Stream::Output(stdout),
             faults: FaultCount::new(),
@@ -75,7 +80,9 @@ impl StdSink {
     }
 
     /// Standard error, of which no write failed yet.
-    pub fn error(stderr: Stderr) -> StdSink {
+    pub fn error(stderr: Stderr) -> StdSink
+        ensures { ⟦<StdSink as Sink>⟧.faults result ≡ 0 }
+    {
         StdSink {
             stream: Stream::Error(stderr),
             faults: FaultCount::new(),
