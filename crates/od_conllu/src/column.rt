@@ -17,7 +17,7 @@ pub fn cut<'a>(text: &'a str, c: char) -> Option<(&'a str, &'a str)>
 }
 
 /// The number whose digits are those of `n` and then these, six at most.
-fn digits(mut n: u32, text: &[u8]) -> Option<u32>
+fn digits(n: u32, text: &[u8]) -> Option<u32>
     requires { n < 1000000 }
     ensures is { result ≡ digits_after n text.now }
     ensures small { IfSome result (λ m. m < 1000000) }

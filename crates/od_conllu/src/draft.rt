@@ -70,10 +70,10 @@ fn first_above(heads: &[LineHead], count: u32) -> Option<LineHead>
 }
 
 /// One more item at the end.
-pub fn put<T: Drop>(items: &mut Vec<T>, misc_item: T) -> Result<(), NoMemory>
-    ensures { OnOk result (items.new.items ≡ items.old.items ++ misc_item ∷ []) }
+pub fn put<T: Drop>(items: &mut Vec<T>, item: T) -> Result<(), NoMemory>
+    ensures { OnOk result (items.new.items ≡ items.old.items ++ item ∷ []) }
 {
-    match items.push(misc_item) {
+    match items.push(item) {
         Ok(()) => Ok(()),
         Err(_) => Err(NoMemory),
     }

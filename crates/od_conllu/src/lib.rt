@@ -7,6 +7,8 @@ mod draft;
 mod fault;
 mod reader;
 mod row;
+#[cfg(test)]
+mod tests;
 
 pub use fault::ReadDocFault;
 pub use reader::read_doc;
