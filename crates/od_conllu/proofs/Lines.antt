@@ -5,14 +5,14 @@ use Rattle.std.specs.List.{slice_split}
 use Rattle.std.specs.Str.Lines.{lines, lines_of_parts, strip_carriage_return}
 use Rattle.std.proofs.lemmas.Bool.{eq-eqb, ne_eqb}
 use Rattle.od_model.specs.Document.Lines.{numbered}
-use Rattle.od_conllu.proofs.Splits.{length-next_parts}
+use Rattle.od_conllu.proofs.Splits.{length-parts}
 
 parts-cons : (x : List ℕ) (parts : List (List ℕ)) → 0 < length parts → lines_of_parts (x ∷ parts) ≡ strip_carriage_return x ∷ lines_of_parts parts
 parts-cons x [] h = absurd (omega arith)
 parts-cons x (y ∷ more) h = refl
 
 pub lines_more : (text front more : List ℕ) → slice_split (λ b. b == 10) text ≡ front ∷ slice_split (λ b. b == 10) more → lines text ≡ strip_carriage_return front ∷ lines more
-lines_more text front more e = ap lines_of_parts e ∙ parts-cons front (slice_split (λ b. b == 10) more) (length-next_parts 10 more)
+lines_more text front more e = ap lines_of_parts e ∙ parts-cons front (slice_split (λ b. b == 10) more) (length-parts 10 more)
 
 pub lines_last : (text : List ℕ) → slice_split (λ b. b == 10) text ≡ text ∷ [] → lines text ≡ lines_of_parts (text ∷ [])
 lines_last text e = ap lines_of_parts e

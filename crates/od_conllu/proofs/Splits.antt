@@ -35,8 +35,8 @@ Splits-cut c xs None e = split-none c xs e
 Splits-cut c xs (Some p) e = split-some c xs (both p) e
 
 -- the parts are never none
-pub length-next_parts : (c : ℕ) (xs : List ℕ) → 0 < length (slice_split (λ b. b == c) xs)
-length-next_parts c xs = omega (arith, length-slice_split (λ b. b == c) xs)
+pub length-parts : (c : ℕ) (xs : List ℕ) → 0 < length (slice_split (λ b. b == c) xs)
+length-parts c xs = omega (arith, length-slice_split (λ b. b == c) xs)
 
 -- more than ten columns
 pub past_ten : (x0 x1 x2 x3 x4 x5 x6 x7 x8 x9 : List ℕ) (xs : List (List ℕ)) → 0 < length xs → row_of (x0 ∷ x1 ∷ x2 ∷ x3 ∷ x4 ∷ x5 ∷ x6 ∷ x7 ∷ x8 ∷ x9 ∷ xs) ≡ None

@@ -25,8 +25,8 @@ fn digits(n: u32, text: &[u8]) -> Option<u32>
     match text {
         [] => Some(n),
         [c, rest @ ..] => {
-            if 48 <= *c && *c <= 57 && n < 100000 {
-                digits(n * 10 + u32::from(*c - 48), rest)
+            if b'0' <= *c && *c <= b'9' && n < 100000 {
+                digits(n * 10 + u32::from(*c - b'0'), rest)
             } else {
                 None
             }
@@ -40,10 +40,10 @@ pub fn number(text: &str) -> Option<u32>
     ensures small { IfSome result (λ m. m < 1000000) }
 {
     let text = text.as_bytes();
-    if text.len() == 0 {
+    if text.is_empty() {
         return None;
     }
-    if text[0] == 48 && 1 < text.len() {
+    if text[0] == b'0' && 1 < text.len() {
         return None;
     }
     digits(0, text)
@@ -54,25 +54,20 @@ pub fn word_id(text: &str) -> Option<u32>
     ensures is { result ≡ word_id text.now }
     ensures small { IfSome result (λ m. m < 1000000) }
 {
-    match number(text) {
-        None => None,
-        Some(n) => { if n == 0 { None } else { Some(n) } }
-    }
+    let n = number(text)?;
+    if n == 0 { None } else { Some(n) }
 }
 
 /// Whether it is the ID of a range line.
 fn is_range(text: &str) -> bool
     ensures { result ≡ is_range (split_once 45 text.now) }
 {
-    match cut(text, '-') {
-        None => false,
-        Some((from, to)) => match word_id(from) {
-            None => false,
-            Some(a) => match word_id(to) {
-                None => false,
-                Some(b) => a <= b,
-            },
-        },
+    let Some((from, to)) = cut(text, '-') else {
+        return false;
+    };
+    match (word_id(from), word_id(to)) {
+        (Some(first), Some(last)) => first <= last,
+        _ => false,
     }
 }
 
@@ -108,7 +103,7 @@ pub fn head(text: &str) -> Option<u32>
 pub fn value(alloc: Global, text: &str) -> Result<Option<Text>, NoMemory>
     ensures { IfOk result (λ v. v ≡ column_value text.now) }
 {
-    if text.len() == 0 || text == "_" {
+    if text.is_empty() || text == "_" {
         return Ok(None);
     }
     Ok(Some(Text::from_str(alloc, text)?))
@@ -118,7 +113,7 @@ pub fn value(alloc: Global, text: &str) -> Result<Option<Text>, NoMemory>
 pub fn label(alloc: Global, text: &str) -> Result<Text, NoMemory>
     ensures { IfOk result (λ t. t ≡ edge_label text.now) }
 {
-    if text.len() == 0 {
+    if text.is_empty() {
         return Text::from_str(alloc, "_");
     }
     Text::from_str(alloc, text)

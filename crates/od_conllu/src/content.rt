@@ -25,7 +25,7 @@ pub fn line_content(text: &str) -> Content<'_>
     requires { 0 < length text.now }
     ensures { content_of text.now ≡ content_seen result }
 {
-    if text.as_bytes()[0] == 35 {
+    if text.as_bytes()[0] == b'#' {
         return Content::NoWord;
     }
     let Some(row) = read_row(text) else {
@@ -51,7 +51,7 @@ pub fn word_fault(count: u32, id: u32, row: &Row<'_>) -> Option<ConlluKind>
     if 2000 <= count {
         return Some(ConlluKind::TooManyTokens);
     }
-    if row.form.len() == 0 {
+    if row.form.is_empty() {
         return Some(ConlluKind::EmptyForm);
     }
     if head(row.head).is_none() {

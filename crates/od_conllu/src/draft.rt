@@ -143,10 +143,10 @@ impl Draft {
                 let count = self.tokens.len() as u32;
                 match word_fault(count, id, &row) {
                     Some(kind) => Err(ReadDocFault::Bad(ConlluFault { line: number, kind })),
-                    None => match self.add(alloc, number, &row) {
-                        Ok(()) => Ok(()),
-                        Err(NoMemory) => Err(ReadDocFault::NoMemory),
-                    },
+                    None => {
+                        self.add(alloc, number, &row)?;
+                        Ok(())
+                    }
                 }
             }
         }

@@ -62,14 +62,10 @@ fn finish(sentences: &mut Vec<Sentence>, draft: Draft) -> Result<(), ReadDocFaul
     ensures ok { OnOk result ((ws : Seq WordLine) → IsDraftOf ws draft → (heads_fault (length ws) ws ≡ None) × (map shown sentences.new.items ≡ map shown sentences.old.items ++ map parts_of (sentence_in ws))) }
     ensures bad { IfErr result (λ e. IfBad e (λ f. (ws : Seq WordLine) → IsDraftOf ws draft → heads_fault (length ws) ws ≡ Some f)) }
 {
-    match draft.end() {
-        Err(fault) => Err(ReadDocFault::Bad(fault)),
-        Ok(None) => Ok(()),
-        Ok(Some(sentence)) => match put(sentences, sentence) {
-            Ok(()) => Ok(()),
-            Err(NoMemory) => Err(ReadDocFault::NoMemory),
-        },
+    if let Some(sentence) = draft.end()? {
+        put(sentences, sentence)?;
     }
+    Ok(())
 }
 
 /// Reads on by one line, whose number is given; the line may be empty.

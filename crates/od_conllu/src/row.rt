@@ -29,36 +29,18 @@ pub fn next_part<'a>(text: &'a str, c: char) -> Option<(&'a str, &'a str)>
 }
 
 /// The columns of a line, where it has exactly ten.
-pub fn read_row<'a>(line: &'a str) -> Option<Row<'a>>
+pub fn read_row(line: &str) -> Option<Row<'_>>
     ensures { row_of (columns_of line.now) ≡ option_map seen result }
 {
-    let Some((id, after_id)) = next_part(line, '\t') else {
-        return None;
-    };
-    let Some((form, after_form)) = next_part(after_id, '\t') else {
-        return None;
-    };
-    let Some((lemma, after_lemma)) = next_part(after_form, '\t') else {
-        return None;
-    };
-    let Some((upos, after_upos)) = next_part(after_lemma, '\t') else {
-        return None;
-    };
-    let Some((xpos, after_xpos)) = next_part(after_upos, '\t') else {
-        return None;
-    };
-    let Some((_feats, after_feats)) = next_part(after_xpos, '\t') else {
-        return None;
-    };
-    let Some((head, after_head)) = next_part(after_feats, '\t') else {
-        return None;
-    };
-    let Some((deprel, after_deprel)) = next_part(after_head, '\t') else {
-        return None;
-    };
-    let Some((_deps, misc)) = next_part(after_deprel, '\t') else {
-        return None;
-    };
+    let (id, after_id) = next_part(line, '\t')?;
+    let (form, after_form) = next_part(after_id, '\t')?;
+    let (lemma, after_lemma) = next_part(after_form, '\t')?;
+    let (upos, after_upos) = next_part(after_lemma, '\t')?;
+    let (xpos, after_xpos) = next_part(after_upos, '\t')?;
+    let (_feats, after_feats) = next_part(after_xpos, '\t')?;
+    let (head, after_head) = next_part(after_feats, '\t')?;
+    let (deprel, after_deprel) = next_part(after_head, '\t')?;
+    let (_deps, misc) = next_part(after_deprel, '\t')?;
     match next_part(misc, '\t') {
         Some(_) => None,
         None => Some(Row {
@@ -78,10 +60,8 @@ pub fn read_row<'a>(line: &'a str) -> Option<Row<'a>>
 fn value_at_key<'a>(key: &str, item: &'a str) -> Option<&'a str>
     ensures { value_at_key key.now (split_once 61 item.now) ≡ option_map now result }
 {
-    match cut(item, '=') {
-        None => None,
-        Some((before, after)) => { if before == key { Some(after) } else { None } }
-    }
+    let (before, after) = cut(item, '=')?;
+    if before == key { Some(after) } else { None }
 }
 
 /// The value of the first item of MISC, whose items stand between `|`, that has this key.
