@@ -80,17 +80,13 @@ fn take_line(
     ensures ok { IfOk result (λ o. (all : Seq (Seq Line)) (rest : Seq Line) → Reaches all (record { number = number; text = text.now } ∷ rest) sentences.old.items draft → Reaches all rest sentences.new.items o) }
     ensures bad { IfErr result (λ e. IfBad e (λ f. (all : Seq (Seq Line)) (rest : Seq Line) → Reaches all (record { number = number; text = text.now } ∷ rest) sentences.old.items draft → blocks_fault all ≡ Some f)) }
 {
-    if text.len() == 0 {
-        return match finish(sentences, draft) {
-            Ok(()) => Ok(Draft::new(alloc)),
-            Err(fault) => Err(fault),
-        };
+    if text.is_empty() {
+        finish(sentences, draft)?;
+        return Ok(Draft::new(alloc));
     }
     let mut draft = draft;
-    match draft.line(alloc, number, text) {
-        Ok(()) => Ok(draft),
-        Err(fault) => Err(fault),
-    }
+    draft.line(alloc, number, text)?;
+    Ok(draft)
 }
 
 /// Ends the text after its last line.
@@ -99,10 +95,8 @@ fn take_end(mut sentences: Vec<Sentence>, draft: Draft) -> Result<Vec<Sentence>,
     ensures ok { IfOk result (λ v. (all : Seq (Seq Line)) → Reaches all [] sentences.items draft → AreRead all v.items) }
     ensures bad { IfErr result (λ e. IfBad e (λ f. (all : Seq (Seq Line)) → Reaches all [] sentences.items draft → blocks_fault all ≡ Some f)) }
 {
-    match finish(&mut sentences, draft) {
-        Ok(()) => Ok(sentences),
-        Err(fault) => Err(fault),
-    }
+    finish(&mut sentences, draft)?;
+    Ok(sentences)
 }
 
 /// Reads what follows the last line feed, which is a line unless it is empty.
@@ -117,14 +111,12 @@ fn take_last(
     ensures ok { IfOk result (λ v. (all : Seq (Seq Line)) → Reaches all (numbered number (lines_of_parts (text.now ∷ []))) sentences.items draft → AreRead all v.items) }
     ensures bad { IfErr result (λ e. IfBad e (λ f. (all : Seq (Seq Line)) → Reaches all (numbered number (lines_of_parts (text.now ∷ []))) sentences.items draft → blocks_fault all ≡ Some f)) }
 {
-    if text.len() == 0 {
+    if text.is_empty() {
         return take_end(sentences, draft);
     }
     let mut sentences = sentences;
-    match take_line(alloc, &mut sentences, draft, number, text) {
-        Ok(next) => take_end(sentences, next),
-        Err(fault) => Err(fault),
-    }
+    let draft = take_line(alloc, &mut sentences, draft, number, text)?;
+    take_end(sentences, draft)
 }
 
 /// The sentences of a text.
@@ -142,10 +134,7 @@ fn read_text(alloc: Global, text: &str) -> Result<Vec<Sentence>, ReadDocFault>
             None => return take_last(alloc, sentences, draft, number, rest),
             Some((front, more)) => {
                 let line = strip_return(front);
-                match take_line(alloc, &mut sentences, draft, number, line) {
-                    Ok(next) => draft = next,
-                    Err(fault) => return Err(fault),
-                }
+                draft = take_line(alloc, &mut sentences, draft, number, line)?;
                 number += 1;
                 rest = more;
             }
@@ -171,11 +160,8 @@ fn read_sentences(alloc: Global, bytes: &[u8]) -> Result<Vec<Sentence>, ReadDocF
             kind: ConlluKind::NotUtf8,
         })),
     };
-    let sentences = match read_text(alloc, text) {
-        Ok(sentences) => sentences,
-        Err(fault) => return Err(fault),
-    };
-    if sentences.len() == 0 {
+    let sentences = read_text(alloc, text)?;
+    if sentences.is_empty() {
         return Err(ReadDocFault::Bad(ConlluFault {
             line: 1,
             kind: ConlluKind::Empty,
@@ -198,13 +184,8 @@ pub fn read_doc(alloc: Global, name: &str, bytes: &[u8]) -> Result<Doc, ReadDocF
     ensures document { IfOk result (λ doc. document_of name.now bytes.now ≡ Some doc) }
     ensures bad { IfErr result (λ e. IfBad e (λ f. doc_fault bytes.now ≡ Some f)) }
 {
-    let sentences = match read_sentences(alloc, bytes) {
-        Ok(sentences) => sentences,
-        Err(fault) => return Err(fault),
-    };
-    let Ok(name) = Text::from_str(alloc, name) else {
-        return Err(ReadDocFault::NoMemory);
-    };
+    let sentences = read_sentences(alloc, bytes)?;
+    let name = Text::from_str(alloc, name)?;
     Ok(Doc {
         name,
         size: bytes.len() as u32,

@@ -1,5 +1,6 @@
 use Rattle.std.proofs.Common.{rules, ◌+◌, ◌∷◌, [], List, subst, sym, arith, ℕ}
 use Rattle.std.specs.Str.Lines.{lines, lines_of_parts}
+use Rattle.std.proofs.lemmas.Result.{err_from_is_err_and}
 use Rattle.od_model.specs.declared.sentence.Sentence.{Sentence}
 use Rattle.od_model.specs.Document.Lines.{Line, blocks_of, lines_of, numbered}
 use Rattle.od_conllu.specs.Reached.{Reaches}
@@ -39,18 +40,19 @@ take_line-requires c = (
       (numbered_more c.lines.number c.lines.rest.now c.strip_return-line.result.now c.in-Some.front.now c.in-Some.more.now c.in-Some.ensures.0 c.strip_return-line.ensures) c.lines.invariant.at,
 )
 
-pub returns-in-Err-clause-bad : goal.returns-in-Err-clause-bad
-returns-in-Err-clause-bad c =
+pub returns-in_err-draft-in-Some-clause-bad : goal.returns-in_err-draft-in-Some-clause-bad
+returns-in_err-draft-in-Some-clause-bad c =
     let line : Line = record { number = c.lines.number; text = c.strip_return-line.result.now } in
     let rest : List Line = numbered (c.lines.number + 1) (lines c.in-Some.more.now) in
-    bad_at c.in-Err.fault (λ all. Reaches all (line ∷ rest) c.lines.sentences.items c.lines.draft) (blocks_of c.args.text.now)
+    let p = err_from_is_err_and c.from_residual.result c.from_residual.ensures.1 in
+    rw (p.1, p.2) (bad_at c.in_err-draft-in-Some.field-0.0 (λ all. Reaches all (line ∷ rest) c.lines.sentences.items c.lines.draft) (blocks_of c.args.text.now)
     (subst (λ (ls : List Line). Reaches (blocks_of c.args.text.now) ls c.lines.sentences.items c.lines.draft)
     (numbered_more c.lines.number c.lines.rest.now c.strip_return-line.result.now c.in-Some.front.now c.in-Some.more.now c.in-Some.ensures.0 c.strip_return-line.ensures) c.lines.invariant.at)
-    (with_rest line rest c.lines.sentences.items c.lines.draft c.in-Err.fault c.in-Err.ensures.bad)
+    (with_rest line rest c.lines.sentences.items c.lines.draft c.in_err-draft-in-Some.field-0.0 c.in_err-draft-in-Some.ensures.bad))
 
 pub lines-preserved : goal.lines-preserved
 lines-preserved c = record {
-  at = c.in-Ok.ensures.ok (blocks_of c.args.text.now) (numbered (c.lines.number + 1) (lines c.in-Some.more.now))
+  at = c.in_ok-draft-in-Some.ensures.ok (blocks_of c.args.text.now) (numbered (c.lines.number + 1) (lines c.in-Some.more.now))
       (subst (λ (ls : List Line). Reaches (blocks_of c.args.text.now) ls c.lines.sentences.items c.lines.draft)
       (numbered_more c.lines.number c.lines.rest.now c.strip_return-line.result.now c.in-Some.front.now c.in-Some.more.now c.in-Some.ensures.0 c.strip_return-line.ensures) c.lines.invariant.at);
   count = omega (arith, c.in-Some.ensures.1);
