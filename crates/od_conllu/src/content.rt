@@ -9,6 +9,9 @@ use crate::column::{head, is_range_or_empty_node, word_id};
 use crate::row::{Row, read_row};
 use od_model::conllu::ConlluKind;
 
+/// The most words of a sentence.
+const MOST_WORDS: u32 = 2000;
+
 /// What a line that is not empty holds.
 #[derive(Clone, Copy, Debug)]
 pub enum Content<'a> {
@@ -48,7 +51,7 @@ pub fn word_fault(count: u32, id: u32, row: &Row<'_>) -> Option<ConlluKind>
     if id != count + 1 {
         return Some(ConlluKind::IdOrder);
     }
-    if 2000 <= count {
+    if MOST_WORDS <= count {
         return Some(ConlluKind::TooManyTokens);
     }
     if row.form.is_empty() {

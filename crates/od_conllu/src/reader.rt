@@ -21,6 +21,9 @@ use od_model::sentence::Sentence;
 use od_model::text::{NoMemory, Text};
 use std::alloc::Global;
 
+/// The most bytes of a document, 1 MiB.
+const MOST_BYTES: usize = 1048576;
+
 /// The bytes after a byte order mark, which may stand at the very beginning.
 fn after_mark(bytes: &[u8]) -> &[u8]
     ensures { result.now ≡ without_mark bytes.now }
@@ -31,7 +34,7 @@ fn after_mark(bytes: &[u8]) -> &[u8]
     bytes
 }
 
-/// The bytes as a text, or the line of the first byte that is not UTF-8.
+/// The bytes as a text, or the line, from 1, of the first byte that is not UTF-8.
 fn text_of(bytes: &[u8]) -> Result<&str, u32>
     requires { length bytes.now ≤ 2 ^ 20 }
     ensures { MatchResult result (λ s. (s.now ≡ bytes.now) × (utf8_valid_len bytes.now ≡ length bytes.now)) (λ line. (utf8_valid_len bytes.now < length bytes.now) × (line ≡ bad_byte_line bytes.now)) }
@@ -72,7 +75,7 @@ fn finish(sentences: &mut Vec<Sentence>, draft: Draft) -> Result<(), ReadDocFaul
 fn take_line(
     alloc: Global,
     sentences: &mut Vec<Sentence>,
-    draft: Draft,
+    mut draft: Draft,
     number: u32,
     text: &str,
 ) -> Result<Draft, ReadDocFault>
@@ -84,7 +87,6 @@ fn take_line(
         finish(sentences, draft)?;
         return Ok(Draft::new(alloc));
     }
-    let mut draft = draft;
     draft.line(alloc, number, text)?;
     Ok(draft)
 }
@@ -102,7 +104,7 @@ fn take_end(mut sentences: Vec<Sentence>, draft: Draft) -> Result<Vec<Sentence>,
 /// Reads what follows the last line feed, which is a line unless it is empty.
 fn take_last(
     alloc: Global,
-    sentences: Vec<Sentence>,
+    mut sentences: Vec<Sentence>,
     draft: Draft,
     number: u32,
     text: &str,
@@ -114,7 +116,6 @@ fn take_last(
     if text.is_empty() {
         return take_end(sentences, draft);
     }
-    let mut sentences = sentences;
     let draft = take_line(alloc, &mut sentences, draft, number, text)?;
     take_end(sentences, draft)
 }
@@ -147,7 +148,7 @@ fn read_sentences(alloc: Global, bytes: &[u8]) -> Result<Vec<Sentence>, ReadDocF
     ensures ok { IfOk result (λ v. AreSentences bytes.now v.items) }
     ensures bad { IfErr result (λ e. IfBad e (λ f. doc_fault bytes.now ≡ Some f)) }
 {
-    if 1048576 < bytes.len() {
+    if MOST_BYTES < bytes.len() {
         return Err(ReadDocFault::Bad(ConlluFault {
             line: 1,
             kind: ConlluKind::TooLong,
