@@ -1,7 +1,7 @@
 // What the text of a column says.
-ghost use Rattle.std.specs.Prelude.{◌≡◌, ◌<◌, IfOk, IfSome, IsTrue, List as Seq, length};
+ghost use Rattle.std.specs.Prelude.{◌≡◌, ◌<◌, IfOk, IfSome};
 ghost use Rattle.std.specs.Option.{option_map, is_some};
-ghost use Rattle.od_model.specs.Document.Columns.{split_once, number_of, digits_after, word_id, is_range_or_empty_node, is_range, is_empty_node, head_of, column_value, edge_label, misc_value, first_value, fold_text, row_of, columns_of};
+ghost use Rattle.od_model.specs.Document.Columns.{split_once, number_of, digits_after, word_id, is_range_or_empty_node, is_range, is_empty_node, head_of, column_value, edge_label, fold_text};
 ghost use Rattle.od_conllu.specs.Seen.{both};
 
 use caseless::default_case_fold_str;

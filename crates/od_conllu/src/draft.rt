@@ -1,5 +1,5 @@
 // The sentence whose lines are being read.
-ghost use Rattle.std.specs.Prelude.{◌≡◌, ◌<◌, ◌≤◌, ◌+◌, ◌++◌, [], ◌∷◌, ℕ, Some, None, IfOk, IfErr, OnOk, List as Seq, length, nat_lt};
+ghost use Rattle.std.specs.Prelude.{◌≡◌, ◌<◌, ◌++◌, [], ◌∷◌, Some, None, IfOk, IfErr, OnOk, List as Seq, length, nat_lt};
 ghost use Rattle.std.specs.List.{find};
 ghost use Rattle.od_model.specs.Document.Columns.{misc_value};
 ghost use Rattle.od_model.specs.Document.Words.{WordLine, word_lines_of, content_of, token_of, edge_of};

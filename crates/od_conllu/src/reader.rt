@@ -1,5 +1,5 @@
 // Reading a text line by line.
-ghost use Rattle.std.specs.Prelude.{◌≡◌, ◌<◌, ◌≤◌, ◌+◌, ◌^◌, ◌++◌, [], ◌∷◌, ℕ, Some, None, MatchResult, IfOk, IfErr, OnOk, List as Seq, length, map};
+ghost use Rattle.std.specs.Prelude.{◌≡◌, ◌<◌, ◌≤◌, ◌+◌, ◌^◌, ◌++◌, [], ◌∷◌, Some, None, MatchResult, IfOk, IfErr, OnOk, List as Seq, length, map};
 ghost use Rattle.std.specs.Str.Lossy.{utf8_valid_len};
 ghost use Rattle.std.specs.Str.Lines.{strip_carriage_return, lines_of_parts};
 ghost use Rattle.od_model.specs.Document.Lines.{Line, without_mark, blocks_of, numbered};
