@@ -1,2 +1,4 @@
 //! The server: reads a script, answers its commands by the one-thread object, and writes the lines.
 #![tactic(auto)]
+
+pub mod lines;
