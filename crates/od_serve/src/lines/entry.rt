@@ -1,12 +1,14 @@
 //! The line of an entry, built as one JSON object.
 ghost use Rattle.std.specs.Prelude.{◌≡◌, ◌++◌, map, IfOk, OnOk, option_map};
-ghost use Rattle.serde_json.specs.Data.{array, put as with_member};
+ghost use Rattle.serde_json.specs.Data.{array};
 ghost use Rattle.serde_json.specs.View.{view, items_of, members_view};
-ghost use Rattle.od_model.specs.Lines.Data.{count, word, with_members};
-ghost use Rattle.od_model.specs.Lines.Entries.{name_of, entry_members, refusal_members, reply_members, own_line};
+ghost use Rattle.od_model.specs.Lines.Data.{count, with_members};
+ghost use Rattle.od_model.specs.Lines.Entries.{name_of, entry_members, reply_members, own_line};
 
-use crate::lines::names::{command_name, kind_name, reply_name, state_name};
-use od_model::history::{Command, Entry, Refusal, Reply};
+use crate::lines::members::{Members, put_count, put_word};
+use crate::lines::names::{command_name, reply_name, state_name};
+use crate::lines::refusal::put_refusal;
+use od_model::history::{Command, Entry, Reply};
 use od_model::text::{Bytes, NoMemory};
 use serde_json::{Map, Value, put};
 use std::alloc::{AllocError, Global};
@@ -34,43 +36,6 @@ fn object_line(alloc: Global, entry: &Entry) -> Result<Vec<u8>, AllocError>
     Ok(line)
 }
 
-/// Puts a number at its key.
-fn put_count(
-    members: &mut Map<String, Value>,
-    alloc: Global,
-    key: &str,
-    number: u32,
-) -> Result<(), AllocError>
-    ensures { OnOk result (members_view members.new.entries ≡ with_member key.now (count number) (members_view members.old.entries)) }
-{
-    put(members, alloc, key, Value::from(number))
-}
-
-/// Puts a number of 64 bits at its key.
-fn put_total(
-    members: &mut Map<String, Value>,
-    alloc: Global,
-    key: &str,
-    number: u64,
-) -> Result<(), AllocError>
-    ensures { OnOk result (members_view members.new.entries ≡ with_member key.now (count number) (members_view members.old.entries)) }
-{
-    put(members, alloc, key, Value::from(number))
-}
-
-/// Puts a text at its key.
-fn put_word(
-    members: &mut Map<String, Value>,
-    alloc: Global,
-    key: &str,
-    text: &str,
-) -> Result<(), AllocError>
-    ensures { OnOk result (members_view members.new.entries ≡ with_member key.now (word text.now) (members_view members.old.entries)) }
-{
-    let value = Value::try_from_str(alloc, text)?;
-    put(members, alloc, key, value)
-}
-
 /// The document or session that a command names.
 fn named(command: &Command) -> Option<&str>
     ensures { option_map (λ name. name.now) result ≡ name_of command.now }
@@ -87,11 +52,7 @@ fn named(command: &Command) -> Option<&str>
 }
 
 /// Puts what the line of every entry has.
-fn put_entry(
-    members: &mut Map<String, Value>,
-    alloc: Global,
-    entry: &Entry,
-) -> Result<(), AllocError>
+fn put_entry(members: &mut Members, alloc: Global, entry: &Entry) -> Result<(), AllocError>
     ensures { OnOk result (members_view members.new.entries ≡ with_members (entry_members entry.now) (members_view members.old.entries)) }
 {
     put_count(members, alloc, "caller", entry.caller)?;
@@ -104,49 +65,7 @@ fn put_entry(
     }
 }
 
-/// Puts the fields of a refusal.
-fn put_refusal(
-    members: &mut Map<String, Value>,
-    alloc: Global,
-    refusal: &Refusal,
-) -> Result<(), AllocError>
-    ensures { OnOk result (members_view members.new.entries ≡ with_members (refusal_members refusal.now) (members_view members.old.entries)) }
-{
-    match *refusal {
-        Refusal::BadDoc { line, kind } => {
-            put_count(members, alloc, "line", line)?;
-            put_word(members, alloc, "kind", kind_name(kind))
-        }
-        Refusal::Full { documents, bytes } => {
-            put_count(members, alloc, "documents", documents)?;
-            put_total(members, alloc, "bytes", bytes)
-        }
-        Refusal::BadLimit { limit } => put_count(members, alloc, "limit", limit),
-        Refusal::NoRoom { count } => put_count(members, alloc, "count", count),
-        Refusal::Busy { owner } => put_count(members, alloc, "owner", owner),
-        Refusal::Finished { round } => put_count(members, alloc, "round", round),
-        Refusal::AtLimit { round } => put_count(members, alloc, "round", round),
-        Refusal::Crowded {
-            rule,
-            document,
-            sentence,
-            count,
-        } => {
-            put_count(members, alloc, "rule", rule)?;
-            put_count(members, alloc, "document", document)?;
-            put_count(members, alloc, "sentence", sentence)?;
-            put_total(members, alloc, "count", count)
-        }
-        Refusal::TooMany { weight } => put_total(members, alloc, "weight", weight),
-        Refusal::Duplicate
-        | Refusal::NoGrammar
-        | Refusal::Taken
-        | Refusal::NoSession
-        | Refusal::NotHeld => Ok(()),
-    }
-}
-
-/// The sizes of sessions or segments as a JSON array.
+/// Sizes as a JSON array.
 fn sizes_value(alloc: Global, sizes: &[u32]) -> Result<Value, AllocError>
     ensures { IfOk result (λ v. view v ≡ array (items_of (map count sizes.now))) }
 {
@@ -158,17 +77,11 @@ fn sizes_value(alloc: Global, sizes: &[u32]) -> Result<Value, AllocError>
 }
 
 /// Puts the fields of a reply.
-fn put_reply(
-    members: &mut Map<String, Value>,
-    alloc: Global,
-    reply: &Reply,
-) -> Result<(), AllocError>
+fn put_reply(members: &mut Members, alloc: Global, reply: &Reply) -> Result<(), AllocError>
     ensures { OnOk result (members_view members.new.entries ≡ with_members (reply_members reply.now) (members_view members.old.entries)) }
 {
     match reply {
-        Reply::Added { documents } => {
-            put_count(members, alloc, "documents", *documents)
-        }
+        Reply::Added { documents } => { put_count(members, alloc, "documents", *documents) }
         Reply::Opened { documents, limit } => {
             put_count(members, alloc, "documents", *documents)?;
             put_count(members, alloc, "limit", *limit)

@@ -173,7 +173,12 @@ fn write_text(
 }
 
 /// Writes an argument.
-fn write_part(line: &mut Writer, alloc: Global, tokens: &[Token], part: &Part) -> Result<(), AllocError>
+fn write_part(
+    line: &mut Writer,
+    alloc: Global,
+    tokens: &[Token],
+    part: &Part,
+) -> Result<(), AllocError>
     ensures tokens { OnOk result (line.new.tokens ≡ line.old.tokens ++ json_tokens (outline (part_data tokens.now part.now))) }
     ensures before { line.new.before ≡ line.old.before }
 {
@@ -187,7 +192,12 @@ fn write_part(line: &mut Writer, alloc: Global, tokens: &[Token], part: &Part) -
 }
 
 /// Writes the arguments.
-fn write_parts(line: &mut Writer, alloc: Global, tokens: &[Token], parts: &List<Part>) -> Result<(), AllocError>
+fn write_parts(
+    line: &mut Writer,
+    alloc: Global,
+    tokens: &[Token],
+    parts: &List<Part>,
+) -> Result<(), AllocError>
     ensures tokens { OnOk result (line.new.tokens ≡ line.old.tokens ++ key_token (codes "arguments") ∷ json_tokens (outline (array (items_of (map (part_data tokens.now) parts.now))))) }
     ensures before { line.new.before ≡ line.old.before }
 {

@@ -40,7 +40,12 @@ fn joined_words(alloc: Global, tokens: &[Token]) -> Result<String, AllocError>
 }
 
 /// The words from a start to an end that is not included, joined by one space.
-pub fn span_text(alloc: Global, tokens: &[Token], start: u32, end: u32) -> Result<String, AllocError>
+pub fn span_text(
+    alloc: Global,
+    tokens: &[Token],
+    start: u32,
+    end: u32,
+) -> Result<String, AllocError>
     ensures { IfOk result (λ text. string_bytes text ≡ text_in tokens.now start end) }
 {
     joined_words(alloc, tokens_between(tokens, start, end))

@@ -8,5 +8,5 @@ use Rattle.od_serve.proofs.lines.mention.write_parts.Given as goal
 abbrev pub invariant-loop-part : goal.invariant-loop-part
 invariant-loop-part l = record {
   written : l.line.tokens ≡ l.initial.line.tokens ++ flat_map (λ part. json_tokens (outline (part_data l.tokens part))) (take l.part-index l.parts);
-  before : l.line.before ≡ l.initial.line.before
+  before : l.line.before ≡ l.initial.line.before;
 }

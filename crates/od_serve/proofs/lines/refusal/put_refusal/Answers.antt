@@ -2,7 +2,7 @@ use Rattle.std.proofs.Common.{codes, ap, ◌∙◌}
 use Rattle.std.proofs.lemmas.Result.{on_ok_weaker}
 use Rattle.serde_json.specs.Data.{put}
 use Rattle.od_model.specs.Lines.Data.{count}
-use Rattle.od_serve.proofs.lines.entry.put_refusal.Goals as goal
+use Rattle.od_serve.proofs.lines.refusal.put_refusal.Goals as goal
 
 pub returns-in_ok-put_count-in-Crowded-3 : goal.returns-in_ok-put_count-in-Crowded-3
 returns-in_ok-put_count-in-Crowded-3 c =
