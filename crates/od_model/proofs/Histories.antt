@@ -1,2 +1,6 @@
+pub mod Callers
+pub mod Climbs
 pub mod Orders
+pub mod Prints
+pub mod Sound
 pub mod Steps

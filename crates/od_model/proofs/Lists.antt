@@ -117,4 +117,3 @@ enumerated all front (x ∷ xs) n e k = (
 
 pub enumerate-at : {X : Type 0} (xs : List X) → Each (λ p. slice_get xs p.0 ≡ Some p.1) (enumerate_from 0 xs)
 enumerate-at xs = enumerated xs [] xs 0 refl refl
-

@@ -1,5 +1,14 @@
 pub mod Rules
+pub mod Built
 pub mod Unambiguous
 pub mod Preferred
 pub mod Derived
 pub mod Scans
+pub mod Steps
+pub mod Words
+pub mod Distinct
+pub mod Examples
+pub mod Tests
+pub mod Spread
+pub mod Reaches
+pub mod Sameness

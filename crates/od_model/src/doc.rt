@@ -1,12 +1,19 @@
 //! Documents.
+ghost use Rattle.std.specs.Prelude.{◌^◌, ◌<◌, ◌≤◌, length};
+ghost use Rattle.od_model.specs.Document.Weight.{weight_of};
+
 use crate::list::List;
 use crate::sentence::Sentence;
 use crate::text::Text;
 
-/// A committed document: its name, the number of bytes that it was read from, and its sentences.
+/// A document that was read: its name, the number of bytes that it was read from, at most 1 MiB,
+/// and its sentences, at least one. Its sentences, tokens and edges together are at most `size`.
 #[derive(Debug, Drop)]
 pub struct Doc {
     pub name: Text,
     pub size: u32,
     pub sentences: List<Sentence>,
+    pub ghost some: { 0 < length sentences },
+    pub ghost small: { size ≤ 2 ^ 20 },
+    pub ghost weight: { weight_of sentences ≤ size },
 }

@@ -3,6 +3,7 @@
 
 pub mod conllu;
 pub mod doc;
+pub mod document_laws;
 pub mod grammar;
 pub mod history;
 pub mod list;
@@ -14,5 +15,6 @@ pub mod pattern;
 pub mod rule;
 pub mod script;
 pub mod sentence;
+pub mod status;
 pub mod text;
 pub mod token;

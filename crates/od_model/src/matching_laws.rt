@@ -1,7 +1,7 @@
-//! The laws of derivations and scans, which hold of every pattern and every sentence.
+//! The laws of derivations, scans, paths and sameness, which hold of every pattern, sentence and mention.
 //!
 //! A law is what a function here ensures; the function itself does nothing.
-ghost use Rattle.od_model.specs.Matching.Laws.{SameChoicesAgree, NoProperFront, StaysWithin, OneBest, ScanIsComputed, OneScan};
+ghost use Rattle.od_model.specs.Matching.Laws.{SameChoicesAgree, NoProperFront, StaysWithin, OneBest, ScanIsComputed, OneScan, ReachIsComputed, SamenessIsEquality};
 
 /// The choices of a derivation decide its end and its captures, and none goes on where another has ended.
 pub fn choices_decide()
@@ -19,4 +19,14 @@ pub fn best_is_unique()
 pub fn scan_is_computed()
     ensures computed { ScanIsComputed }
     ensures unique { OneScan }
+{}
+
+/// From some tokens of a sentence a path leads to exactly the tokens that are computed.
+pub fn reach_is_computed()
+    ensures { ReachIsComputed }
+{}
+
+/// Mentions without repeats are mentions of which no two are equal: the test of sameness is equality.
+pub fn sameness_is_equality()
+    ensures { SamenessIsEquality }
 {}

@@ -4,12 +4,19 @@ use crate::text::Text;
 /// One word of a sentence.
 #[derive(Debug, Drop)]
 pub struct Token {
+    /// FORM.
     pub word: Text,
+    /// FORM after Unicode's default case folding.
     pub norm: Text,
+    /// LEMMA; none where the column is `_` or empty, as in the columns below.
     pub lemma: Option<Text>,
+    /// UPOS.
     pub upos: Option<Text>,
+    /// XPOS.
     pub tag: Option<Text>,
+    /// The value of the first item of MISC whose key is `Entity`.
     pub entity: Option<Text>,
+    /// The value of the first item of MISC whose key is `Chunk`.
     pub chunk: Option<Text>,
 }
 
@@ -18,5 +25,6 @@ pub struct Token {
 pub struct Edge {
     pub governor: u32,
     pub dependent: u32,
+    /// DEPREL.
     pub label: Text,
 }

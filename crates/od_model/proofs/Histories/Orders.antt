@@ -44,4 +44,3 @@ Follows-begins os ps es h = rw append-nil at (Begins-after os ps es [] h (Begins
 
 pub Follows-begun : (os : List Order) (es : List Entry) → Follows os es → Begins os es
 Follows-begun os es h = subst (λ (l : List Order). Begins l es) (append-nil os) (Follows-begins os [] es h)
-

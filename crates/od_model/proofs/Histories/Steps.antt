@@ -1,11 +1,11 @@
 -- Laws of histories: one entry more.
-use Rattle.std.proofs.Common.{◌≡◌, ℕ, List, [], ◌∷◌, ◌++◌, flat_map, refl, sym, ap, ◌∙◌, append-nil}
+use Rattle.std.proofs.Common.{◌≡◌, List, [], ◌∷◌, ◌++◌, flat_map, refl, ap, ◌∙◌, append-nil}
 use Rattle.std.proofs.lemmas.List.Sums.{fold-append}
 use Rattle.std.proofs.lemmas.List.Concat.{flat_map-append}
 use Rattle.od_model.specs.declared.grammar.Head.{Head}
 use Rattle.od_model.specs.declared.history.Entry.{Entry}
 use Rattle.od_model.specs.declared.object.OneThread.{OneThread}
-use Rattle.od_model.specs.Lists.{points, points_after, Each}
+use Rattle.od_model.specs.Lists.{points, points_after}
 use Rattle.od_model.specs.Object.Effects.{effect}
 use Rattle.od_model.specs.History.Legal.{state_after, IsNext, Legal}
 use Rattle.od_model.specs.History.Lines.{Lines, lines_at, entry_lines}

@@ -19,6 +19,7 @@ left_of : (a b : Bool) → (a && b) ≡ true → a ≡ true
 left_of true b e = refl
 left_of false b e = e
 
+-- the relation A, where the bounds of its turns are in order
 abbrev Capped : ℕ → ℕ → Relation → Relation
 Capped least most A i j c t = (least ≤ most) × A i j c t
 
@@ -26,6 +27,7 @@ agree-turns : (lazy : Bool) (A : Relation) (least : ℕ) (most : Option ℕ) →
 agree-turns lazy A least None la i i' j j' c c' t t' u u' e d d' q = agree-Times A least (Endless lazy A) la (agree-Endless lazy A la) i i' j j' c c' t t' u u' e d d' q
 agree-turns lazy A least (Some most) la i i' j j' c c' t t' u u' e d d' q = agree-Times A least (Further lazy A (most - least)) la (agree-Further lazy A la (most - least)) i i' j j' c c' t t' u u' e d.1 d'.1 q
 
+-- the part with the number k against the later ones, whose numbers are greater
 agree-first_rest : (k : ℕ) (A B : Relation) → Above (suc k) B → Agree (Choose k A) B
 agree-first_rest k A B above i i' j j' c c' t t' u u' e d d' q =
     let h = above i' j' c' t' d' in
@@ -42,6 +44,7 @@ agree-rest_first k A B above i i' j j' c c' t t' u u' e d d' q =
     let lt : suc k ≤ h.0 = h.3 in
     absurd (omega arith)
 
+-- the part with the number k is preferred to the later ones
 order-first_rest : (k : ℕ) (A B : Relation) (i : ℕ) → Above (suc k) B → Order (Choose k A) B i
 order-first_rest k A B i above j j' c c' t t' d d' q =
     let h = above i j' c' t' d' in
@@ -50,6 +53,7 @@ order-first_rest k A B i above j j' c c' t t' d d' q =
     elim q' [ inl r ↦ absurd (omega arith) | inr (r, s) ↦ absurd (omega arith) ]
 
 module _ (w : World) where
+  -- the choices of an alternation begin with the numbers of its parts
   above-one_of : (k : ℕ) {m : _} (row : Row_of-Surface m) → Above k (one_of w k row)
   unfolding one_of
   above-one_of k end_of-Surface i j c t d = absurd d
@@ -62,6 +66,7 @@ module _ (w : World) where
   mutual
     unfolding derives in_order one_of
 
+    -- the choices of a derivation decide it
     pub unambiguous : (p : Surface) → IsUnambiguous (derives w p)
     unambiguous (Token c) = agree-One (fits_token w c)
     unambiguous (Label name) = agree-Jump w.length (w.is_span name)
@@ -92,6 +97,7 @@ module _ (w : World) where
   mutual
     unfolding derives in_order one_of
 
+    -- a derivation takes no token outside the sentence
     pub within : (p : Surface) → Within w.length (derives w p)
     within (Token c) = within-One w.length (fits_token w c) (inside_token c)
     within (Label name) = within-Jump w.length (w.is_span name)
@@ -116,6 +122,7 @@ module _ (w : World) where
   capped A least most k i true x e f = first_along A (Capped least most A) k i x (λ j c t d. (leb-true least most e, d)) (λ j c t d. d.1) f
   capped A least most k i false x e f = λ j c t d. absurd (let p : false ≡ true = sym e ∙ le-leb least most d.0 in cc)
 
+  -- turns with their bounds
   turns-first : (lazy : Bool) (A : Relation) (f : Trial) (least : ℕ) (most : Option ℕ) → IsUnambiguous A → Within w.length A → Firsts w.length A f
       → Firsts w.length (turns_from lazy A least most) (first_turns w.length lazy f least most)
   turns-first lazy A f least None la wa fa k i h =
@@ -127,6 +134,7 @@ module _ (w : World) where
   mutual
     unfolding derives in_order one_of first first_order first_of
 
+    -- the way that is computed is the preferred derivation
     pub firsts : (p : Surface) → Firsts w.length (derives w p) (first w p)
     firsts (Token c) = first-One w.length (fits_token w c)
     firsts (Label name) = first-Jump w.length (w.is_span name)

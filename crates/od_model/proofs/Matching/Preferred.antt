@@ -20,10 +20,12 @@ pub record Preferred (A : Relation) (k : Continuation) (i : ℕ) (o : Ending) : 
   pub whole : o ≡ add captures rest
   pub least : (j : ℕ) (c : List Capture) (t : List ℕ) → A i j c t → Before t choices → k j ≡ None
 
+-- what a trial answers: the preferred way, or that no way of A goes on
 abbrev pub IsFirst : Relation → Continuation → ℕ → Option Ending → Type 0
 IsFirst A k i None = (j : ℕ) (c : List Capture) (t : List ℕ) → A i j c t → k j ≡ None
 IsFirst A k i (Some o) = Preferred A k i o
 
+-- the trial f answers with the preferred way of A, whatever follows
 abbrev pub Firsts : ℕ → Relation → Trial → Type 0
 Firsts l A f = (k : Continuation) (i : ℕ) → i ≤ l → IsFirst A k i (f k i)
 
@@ -34,6 +36,7 @@ Within l A = (i j : ℕ) (c : List Capture) (t : List ℕ) → i ≤ l → A i j
 none_some : {A : Type 0} {o : Ending} {x : Option Ending} → x ≡ Some o → x ≡ None → A
 none_some e f = cc
 
+-- nothing comes before the empty list of choices
 before_nil : (t : List ℕ) → Before t [] → ⊥
 before_nil [] h = h
 before_nil (x ∷ xs) h = h
@@ -63,9 +66,11 @@ stays_first k i (Some o) e = record {
   least = λ j c t d h. absurd (before_nil t h);
 }
 
+-- the single trials, each first with its answer as a variable
 pub first-Stays : (l : ℕ) → Firsts l Stays (λ k i. k i)
 first-Stays l k i h = stays_first k i (k i) refl
 
+-- a token, by whether it passes and what follows it
 one_first : (f : ℕ → Bool) (k : Continuation) (i : ℕ) (b : Bool) (x : Option Ending) → f i ≡ b → k (i + 1) ≡ x → IsFirst (One f) k i (if b then x else None)
 one_first f k i false x e h = λ j c t d. absurd (let p : false ≡ true = sym e ∙ d.passes in cc)
 one_first f k i true None e h = λ j c t d. ap k d.ends ∙ h
@@ -83,6 +88,7 @@ one_first f k i true (Some o) e h = record {
 pub first-One : (l : ℕ) (f : ℕ → Bool) → Firsts l (One f) (first_one f)
 first-One l f k i h = one_first f k i (f i) (k (i + 1)) refl refl
 
+-- a test of the place, in the same way
 test_first : (f : ℕ → Bool) (k : Continuation) (i : ℕ) (b : Bool) (x : Option Ending) → f i ≡ b → k i ≡ x → IsFirst (Test f) k i (if b then x else None)
 test_first f k i false x e h = λ j c t d. absurd (let p : false ≡ true = sym e ∙ d.passes in cc)
 test_first f k i true None e h = λ j c t d. ap k d.stays.ends ∙ h
@@ -109,9 +115,11 @@ module _ (l : ℕ) (A B : Relation) (g : Trial) (la : IsUnambiguous A) (wa : Wit
   blocked : (k : Continuation) (m : ℕ) → m ≤ l → g k m ≡ None → (j : ℕ) (c : List Capture) (t : List ℕ) → B m j c t → k j ≡ None
   blocked k m h e j c t d = let f : IsFirst B k m None = subst (IsFirst B k m) e (fb k m h) in f j c t d
 
+  -- the preferred way of B from where a way of A ends
   after : (k : Continuation) (m : ℕ) (o : Ending) → m ≤ l → g k m ≡ Some o → Preferred B k m o
   after k m o h e = subst (IsFirst B k m) e (fb k m h)
 
+  -- the preferred way of both is the preferred way of A on which B goes on, and then that of B
   then_first : (k : Continuation) (i : ℕ) (x : Option Ending) → i ≤ l → IsFirst A (g k) i x → IsFirst (Then A B) k i x
   then_first k i None h f = λ j c t d. blocked k d.mid (wa i d.mid d.c1 d.t1 h d.left).1 (f d.mid d.c1 d.t1 d.left) j d.c2 d.t2 d.right
   then_first k i (Some o) h a =
@@ -156,6 +164,7 @@ first_along A B k i (Some o) to from a = record {
   least = λ j c t d. a.least j c t (from j c t d);
 }
 
+-- one and the same choice before all ways changes nothing
 pub choose_first : (n : ℕ) (A : Relation) (k : Continuation) (i : ℕ) (x : Option Ending) → IsFirst A k i x → IsFirst (Choose n A) k i x
 choose_first n A k i None f = λ j c t d. f j c d.later d.goes
 choose_first n A k i (Some o) a = record {
@@ -181,6 +190,7 @@ order-Choose n m A B i lt j j' c c' t t' d d' q =
     subst (λ (z : List ℕ). Before z (n ∷ d.later)) d'.choices (subst (λ (z : List ℕ). Before t' z) d.choices q) in
     elim q' [ inl h ↦ absurd (omega arith) | inr (e, h) ↦ absurd (omega arith) ]
 
+-- the preferred way of A, and else that of B, where no choice of B comes before one of A
 pub or_first : (A B : Relation) (k : Continuation) (i : ℕ) (x y : Option Ending) → Order A B i → IsFirst A k i x → IsFirst B k i y → IsFirst (Or A B) k i (option_or x y)
 or_first A B k i None None order f g = λ j c t d. elim d [ inl a ↦ f j c t a | inr b ↦ g j c t b ]
 or_first A B k i None (Some o) order f b = record {
@@ -212,6 +222,7 @@ if_some : (b : Bool) (x : Option Ending) (o : Ending) → (if b then x else None
 if_some true x o h = (refl, h)
 if_some false x o h = absurd (let p : None ≡ Some o = h in cc)
 
+-- ways that take no token are left out
 pub took_first : (A : Relation) (k : Continuation) (i : ℕ) (x : Option Ending) → IsFirst A (λ j. if nat_lt i j then k j else None) i x → IsFirst (Took A) k i x
 took_first A k i None f = λ j c t d. if_none (nat_lt i j) (k j) (lt-ltb i j d.0) (f j c t d.1)
 took_first A k i (Some o) a =
@@ -235,6 +246,7 @@ map_some : (f : Ending → Ending) (x : Option Ending) (o : Ending) → option_m
 map_some f None o e = absurd (let p : None ≡ Some o = e in cc)
 map_some f (Some o') o e = (o', refl, (let p : Some (f o') ≡ Some o = e in cc))
 
+-- a way and the same way as a capture
 pub named_first : (name : List ℕ) (A : Relation) (k : Continuation) (i : ℕ) (x : Option Ending) → IsFirst A (λ j. option_map (close j) (k j)) i x
     → IsFirst (Named name A) k i (option_map (open_capture name i) x)
 named_first name A k i None f = λ j c t d. map_none (close j) (k j) (f j d.inner t d.goes)
@@ -256,6 +268,7 @@ named_first name A k i (Some o) a =
 pub within-Stays : (l : ℕ) → Within l Stays
 within-Stays l i j c t h d = let e : j ≡ i = d.ends in (omega arith, omega arith)
 
+-- the same of the other relations
 pub within-One : (l : ℕ) (f : ℕ → Bool) → ((i : ℕ) → f i ≡ true → i < l) → Within l (One f)
 within-One l f inside i j c t h d = let e : j ≡ i + 1 = d.ends in let lt : i < l = inside i d.passes in (omega arith, omega arith)
 
@@ -304,6 +317,7 @@ within-Exactly l lazy A (suc n) wa =
 pub within-Endless : (l : ℕ) (lazy : Bool) (A : Relation) → Within l A → Within l (Endless lazy A)
 within-Endless l lazy A wa i j c t h d = within-Exactly l lazy A d.0 wa i j c t h d.1
 
+-- turns without a choice
 pub first-Times : (l : ℕ) (A : Relation) (f : Trial) (n : ℕ) (B : Relation) (g : Trial) → IsUnambiguous A → Within l A → Firsts l A f → Firsts l B g → Firsts l (Times A n B) (first_times f n g)
 first-Times l A f zero B g la wa fa fb = fb
 first-Times l A f (suc n) B g la wa fa fb = first-Then l A (Times A n B) (first_times f n g) la wa (first-Times l A f n B g la wa fa fb) f fa
@@ -314,6 +328,7 @@ first-Took l A f fa k i h = took_first A k i _ (fa (λ j. if nat_lt i j then k j
 pub first-Named : (l : ℕ) (name : List ℕ) (A : Relation) (f : Trial) → Firsts l A f → Firsts l (Named name A) (first_named name f)
 first-Named l name A f fa k i h = named_first name A k i _ (fa (λ j. option_map (close j) (k j)) i h)
 
+-- the order of the two sides does not matter to what is preferred
 swapped : (A B : Relation) (k : Continuation) (i : ℕ) (x : Option Ending) → IsFirst (Or B A) k i x → IsFirst (Or A B) k i x
 swapped A B k i x f = first_along (Or B A) (Or A B) k i x (λ j c t d. elim d [ inl a ↦ inr a | inr b ↦ inl b ]) (λ j c t d. elim d [ inl a ↦ inr a | inr b ↦ inl b ]) f
 
@@ -326,6 +341,7 @@ turn_first false A k i x y f g =
     or_first (Choose 0 A) (Choose 1 Stays) k i x y (order-Choose 0 1 A Stays i (omega arith)) (choose_first 0 A k i x f) (choose_first 1 Stays k i y g)
 
 module _ (l : ℕ) (lazy : Bool) (A : Relation) (f : Trial) (la : IsUnambiguous A) (wa : Within l A) (fa : Firsts l A f) where
+  -- up to n further turns
   pub first-Further : (n : ℕ) → Firsts l (Further lazy A n) (first_further lazy f n)
   first-Further zero k i h = first-Stays l k i h
   first-Further (suc n) k i h =
@@ -333,6 +349,7 @@ module _ (l : ℕ) (lazy : Bool) (A : Relation) (f : Trial) (la : IsUnambiguous 
       (first-Then l (Took A) (Further lazy A n) (first_further lazy f n) (agree-Took A la) (within-Took l A wa) (first-Further n) (first_took f) (first-Took l A f fa) k i h)
       (first-Stays l k i h)
 
+  -- as many turns as there are tokens left are all that there can be
   to_endless : (n i j : ℕ) (c : List Capture) (t : List ℕ) → i ≤ l → l - i < n → Further lazy A n i j c t → Endless lazy A i j c t
   to_endless zero i j c t h lt d = absurd (omega arith)
   to_endless (suc n) i j c t h lt (inr d) = (0, d)
@@ -348,6 +365,7 @@ module _ (l : ℕ) (lazy : Bool) (A : Relation) (f : Trial) (la : IsUnambiguous 
         },
       )
 
+  -- any number of turns that each take a token is within that
   from_exactly : (m n i j : ℕ) (c : List Capture) (t : List ℕ) → i ≤ l → l - i < n → Exactly lazy A m i j c t → Further lazy A n i j c t
   from_exactly m zero i j c t h lt d = absurd (omega arith)
   from_exactly zero (suc n) i j c t h lt d = inr d
@@ -360,6 +378,7 @@ module _ (l : ℕ) (lazy : Bool) (A : Relation) (f : Trial) (la : IsUnambiguous 
         goes = record { mid = d.goes.mid; c1 = d.goes.c1; c2 = d.goes.c2; t1 = d.goes.t1; t2 = d.goes.t2; left = d.goes.left; right = from_exactly m n d.goes.mid j d.goes.c2 d.goes.t2 inside (omega arith) d.goes.right; captures = d.goes.captures; choices = d.goes.choices };
       })
 
+  -- any number of further turns
   pub first-Endless : Firsts l (Endless lazy A) (first_endless l lazy f)
   first-Endless k i h =
       first_along (Further lazy A (suc (l - i))) (Endless lazy A) k i _
@@ -368,9 +387,11 @@ module _ (l : ℕ) (lazy : Bool) (A : Relation) (f : Trial) (la : IsUnambiguous 
       (first-Further (suc (l - i)) k i h)
 
 module _ (l : ℕ) (f : ℕ → ℕ → Bool) where
+  -- the span of n + 1 tokens
   abbrev At : ℕ → Relation
   At n i j c t = (j ≡ i + suc n) × Jump l f i j c t
 
+  -- the spans of up to n tokens
   abbrev Upto : ℕ → Relation
   Upto n i j c t = (j ≤ i + n) × Jump l f i j c t
 
@@ -391,6 +412,7 @@ module _ (l : ℕ) (f : ℕ → ℕ → Bool) where
         elim q' [ inl lt ↦ absurd (let r : l - j ≡ l - (i + suc n) = ap (λ z. l - z) same in omega arith) | inr (r, s) ↦ s ]);
   }
 
+  -- a longer span is preferred
   order-At : (n : ℕ) (i : ℕ) → i + suc n ≤ l → Order (At n) (Upto n) i
   order-At n i h j j' c c' t t' d d' q =
       let q' : Before ((l - j') ∷ []) ((l - j) ∷ []) = subst (λ (z : List ℕ). Before z ((l - j) ∷ [])) d'.1.choices (subst (λ (z : List ℕ). Before t' z) d.1.choices q) in
@@ -398,6 +420,7 @@ module _ (l : ℕ) (f : ℕ → ℕ → Bool) where
       let b : j' ≤ i + n = d'.0 in
       elim q' [ inl lt ↦ absurd (omega arith) | inr (r, s) ↦ s ]
 
+  -- the spans of up to n tokens, the longest first
   down_first : (k : Continuation) (i n : ℕ) → i + n ≤ l → IsFirst (Upto n) k i (first_down f k i n)
   down_first k i zero h = λ j c t d. absurd (let a : j ≤ i + 0 = d.0 in let b : i < j = d.1.forward in omega arith)
   down_first k i (suc n) h =

@@ -8,21 +8,23 @@ use Rattle.od_model.specs.Matching.First.{Ending, accept, add}
 use Rattle.od_model.specs.Matching.Derives.{World, derives, first}
 use Rattle.od_model.specs.Matching.Scan.{IsBest, Match, NoMatchAt, IsNext, Scans, take_or_go, scan_from, scan_of, world_in}
 use Rattle.od_model.proofs.Matching.Unambiguous.{Same}
-use Rattle.od_model.proofs.Matching.Preferred as f
+use Rattle.od_model.proofs.Matching.Preferred as preferred
 use Rattle.od_model.proofs.Matching.Derived.{unambiguous, within, firsts}
 use Rattle.od_model.specs.declared.sentence.Sentence.{Sentence}
 use Rattle.od_model.specs.declared.mention.Labelled.{Labelled}
 use Rattle.od_model.specs.declared.pattern.Surface.{Surface}
 
+-- where nothing follows, a way ends where it is
 accept_some : (j : ℕ) (o : Ending) → accept j ≡ Some o → o ≡ record { end = j; captures = []; ends = [] }
 accept_some j o e = cc
 
 accept_none : (j : ℕ) → accept j ≡ None → ⊥
 accept_none j e = cc
 
+-- the way that is computed is the best derivation
 pub best_of : (w : World) (p : Surface) (i : ℕ) (o : Ending) → i ≤ w.length → first w p accept i ≡ Some o → IsBest w p i o.end o.captures
 best_of w p i o h e =
-    let b : f.Preferred (derives w p) accept i o = subst (f.IsFirst (derives w p) accept i) e (firsts w p accept i h) in
+    let b : preferred.Preferred (derives w p) accept i o = subst (preferred.IsFirst (derives w p) accept i) e (firsts w p accept i h) in
     let r : b.rest ≡ record { end = b.end; captures = []; ends = [] } = accept_some b.end b.rest b.on in
     let whole : o ≡ record { end = b.end; captures = b.captures ++ []; ends = [] } = b.whole ∙ ap (add b.captures) r in
     let end : b.end ≡ o.end = sym (ap (λ (z : Ending). z.end) whole) in
@@ -33,9 +35,10 @@ best_of w p i o h e =
       least = λ j c t d q. accept_none j (b.least j c t d q);
     }
 
+-- where none is computed there is no derivation
 pub none_of : (w : World) (p : Surface) (i : ℕ) → i ≤ w.length → first w p accept i ≡ None → (j : ℕ) (c : List Capture) (t : List ℕ) → derives w p i j c t → ⊥
 none_of w p i h e j c t d =
-    let g : f.IsFirst (derives w p) accept i None = subst (f.IsFirst (derives w p) accept i) e (firsts w p accept i h) in
+    let g : preferred.IsFirst (derives w p) accept i None = subst (preferred.IsFirst (derives w p) accept i) e (firsts w p accept i h) in
     accept_none j (g j c t d)
 
 -- one of two lists comes first, or they are the same
@@ -63,12 +66,15 @@ one_best w p i j j' c c' b b' =
     let s : Same j j' c c' b.choices b'.choices [] [] = unambiguous w p i i j j' c c' b.choices b'.choices [] [] refl b.goes b'.goes (ap (λ (z : List ℕ). z ++ []) e) in
     (s.ends, s.captures)
 
+-- where none is computed no match begins
 pub idle_none : (w : World) (p : Surface) (i : ℕ) → i ≤ w.length → first w p accept i ≡ None → NoMatchAt w p i
 idle_none w p i h e j c b = absurd (none_of w p i h e j c b.choices b.goes)
 
+-- where the one that is computed takes no token no match begins
 pub idle_empty : (w : World) (p : Surface) (i : ℕ) (o : Ending) → i ≤ w.length → first w p accept i ≡ Some o → o.end ≤ i → NoMatchAt w p i
 idle_empty w p i o h e le j c b = let s = one_best w p i j o.end c o.captures b (best_of w p i o h e) in let q : j ≡ o.end = s.0 in omega arith
 
+-- a place where no match begins may be passed by
 pub scan_idle : (w : World) (p : Surface) (i : ℕ) (ms : List Match) → NoMatchAt w p i → Scans w p (i + 1) ms → Scans w p i ms
 scan_idle w p i [] idle s = λ k le lt.
     elim (cases_lt i k) [ inl h ↦ s k (omega arith) lt | inr h ↦ let e : i ≡ k = omega arith in subst (NoMatchAt w p) e idle ]
@@ -83,6 +89,7 @@ scan_idle w p i (m ∷ ms) idle (next, rest) = (
   rest,
 )
 
+-- a match, and the matches behind it
 pub scan_match : (w : World) (p : Surface) (i : ℕ) (o : Ending) (ms : List Match) → i ≤ w.length → first w p accept i ≡ Some o → i < o.end → Scans w p o.end ms
     → Scans w p i ((record { start = i; end = o.end; captures = o.captures }) ∷ ms)
 scan_match w p i o ms h e lt s =
@@ -90,10 +97,11 @@ scan_match w p i o ms h e lt s =
     let in_reach : o.end ≤ w.length = (within w p i o.end o.captures b.choices h b.goes).1 in
     (record { from = omega arith; inside = omega arith; takes = lt; none_before = λ k le lt'. absurd (omega arith); best = b }, s)
 
+-- behind the last token there is nothing
 pub scan_end : (w : World) (p : Surface) (i : ℕ) → w.length ≤ i → Scans w p i []
 scan_end w p i h k le lt = absurd (omega arith)
 
--- the law in two sentences: equal choices give an equal end and equal captures
+-- equal choices give an equal end and equal captures
 pub same_choices : (w : World) (p : Surface) (i j j' : ℕ) (c c' : List Capture) (t : List ℕ) → derives w p i j c t → derives w p i j' c' t → (j ≡ j') × (c ≡ c')
 same_choices w p i j j' c c' t d d' = let s : Same j j' c c' t t [] [] = unambiguous w p i i j j' c c' t t [] [] refl d d' refl in (s.ends, s.captures)
 
@@ -108,6 +116,7 @@ module _ (w : World) (p : Surface) where
   best_within i j c h b = (within w p i j c b.choices h b.goes).1
 
   module _ (on : ℕ → List Match) (i : ℕ) (lt : i < w.length) (rest : (j : ℕ) → i < j → j ≤ w.length → Scans w p j (on j)) where
+    -- by whether the way takes a token
     longer : (o : Ending) (b : Bool) → first w p accept i ≡ Some o → nat_lt i o.end ≡ b
         → Scans w p i (if b then record { start = i; end = o.end; captures = o.captures } ∷ on o.end else on (i + 1))
     longer o true e t =
@@ -118,16 +127,19 @@ module _ (w : World) (p : Surface) where
         let h : i ≤ w.length = omega arith in
         scan_idle w p i (on (i + 1)) (idle_empty w p i o h e (ltb-false i o.end t)) (rest (i + 1) (omega arith) (omega arith))
 
+    -- by whether there is a way
     told : (o : Option Ending) → first w p accept i ≡ o → Scans w p i (take_or_go on i o)
     told None e = scan_idle w p i (on (i + 1)) (let h : i ≤ w.length = omega arith in idle_none w p i h e) (rest (i + 1) (omega arith) (omega arith))
     told (Some o) e = longer o (nat_lt i o.end) e refl
 
+  -- by whether the place is within the sentence
   inside : (on : ℕ → List Match) (i : ℕ) (b : Bool) → nat_lt i w.length ≡ b → ((j : ℕ) → i < j → j ≤ w.length → Scans w p j (on j))
       → Scans w p i (if b then take_or_go on i (first w p accept i) else [])
   inside on i true e rest = told on i (ltb-true i w.length e) rest (first w p accept i) refl
   inside on i false e rest = scan_end w p i (ltb-false i w.length e)
 
-  scans_from : (n i : ℕ) → w.length ≤ i + n → Scans w p i (scan_from w p n i)
+  -- with enough places to look at, the list that is computed is the list of matches
+  pub scans_from : (n i : ℕ) → w.length ≤ i + n → Scans w p i (scan_from w p n i)
   unfolding scan_from
   scans_from zero i h = scan_end w p i (omega arith)
   scans_from (suc n) i h = inside (scan_from w p n) i (nat_lt i w.length) refl (λ j lt le. scans_from n j (omega arith))

@@ -2,12 +2,14 @@
 use Rattle.std.proofs.Common.{◌≡◌, ℕ, zero, suc, ◌+◌, ◌-◌, ◌≤◌, Bool, true, false, List, [], ◌∷◌, ◌++◌, sym, ◌∙◌, ap, subst, inl, inr, arith, append_assoc}
 use Rattle.od_model.specs.Matching.Choice.{Capture, Relation, Stays, One, Test, Jump, Never, Then, Choose, Or, Took, Named, Times, another, stop, Further, Exactly, Endless}
 
+-- the same ends, captures and choices, and the same behind the choices
 pub record Same (j j' : ℕ) (c c' : List Capture) (t t' u u' : List ℕ) : Type 0 where
   pub ends : j ≡ j'
   pub captures : c ≡ c'
   pub choices : t ≡ t'
   pub rest : u ≡ u'
 
+-- derivations of A and of B from one place, whose choices agree as far as both go, are the same; what follows the choices agrees too
 abbrev pub Agree : Relation → Relation → Type 0
 Agree A B = (i i' j j' : ℕ) (c c' : List Capture) (t t' u u' : List ℕ) → i ≡ i' → A i j c t → B i' j' c' t' → t ++ u ≡ t' ++ u' → Same j j' c c' t t' u u'
 
@@ -15,6 +17,7 @@ Agree A B = (i i' j j' : ℕ) (c c' : List Capture) (t t' u u' : List ℕ) → i
 abbrev pub IsUnambiguous : Relation → Type 0
 IsUnambiguous A = Agree A A
 
+-- the laws of the single relations, from those of their parts
 pub agree-Stays : IsUnambiguous Stays
 agree-Stays i i' j j' c c' t t' u u' e d d' q =
     let r : [] ++ u ≡ [] ++ u' = subst (λ (x : List ℕ). x ++ u ≡ [] ++ u') d.choices (subst (λ (x : List ℕ). t ++ u ≡ x ++ u') d'.choices q) in
@@ -65,6 +68,7 @@ agree-Choose n A B la i i' j j' c c' t t' u u' e d d' q =
 pub agree-apart : (n m : ℕ) (A B : Relation) → (n ≡ m → ⊥) → Agree (Choose n A) (Choose m B)
 agree-apart n m A B ne i i' j j' c c' t t' u u' e d d' q = absurd (ne (heads n m t t' d.later d'.later u u' d.choices d'.choices q).0)
 
+-- either side of the one against either side of the other
 pub agree-Or : (A B A' B' : Relation) → Agree A A' → Agree A B' → Agree B A' → Agree B B' → Agree (Or A B) (Or A' B')
 agree-Or A B A' B' aa ab ba bb i i' j j' c c' t t' u u' e (inl d) (inl d') q = aa i i' j j' c c' t t' u u' e d d' q
 agree-Or A B A' B' aa ab ba bb i i' j j' c c' t t' u u' e (inl d) (inr d') q = ab i i' j j' c c' t t' u u' e d d' q
@@ -74,6 +78,7 @@ agree-Or A B A' B' aa ab ba bb i i' j j' c c' t t' u u' e (inr d) (inr d') q = b
 pub agree-Took : (A : Relation) → IsUnambiguous A → IsUnambiguous (Took A)
 agree-Took A la i i' j j' c c' t t' u u' e d d' q = la i i' j j' c c' t t' u u' e d.1 d'.1 q
 
+-- the captures inside agree, and so the one around them
 pub agree-Named : (name : List ℕ) (A : Relation) → IsUnambiguous A → IsUnambiguous (Named name A)
 agree-Named name A la i i' j j' c c' t t' u u' e d d' q =
     let x : Same j j' d.inner d'.inner t t' u u' = la i i' j j' d.inner d'.inner t t' u u' e d.goes d'.goes q in
@@ -86,6 +91,7 @@ pub agree-Times : (A : Relation) (n : ℕ) (B : Relation) → IsUnambiguous A �
 agree-Times A zero B la lb = lb
 agree-Times A (suc n) B la lb = agree-Then A A (Times A n B) (Times A n B) la (agree-Times A n B la lb)
 
+-- the two choices at a further turn differ
 another-stop : (lazy : Bool) → another lazy ≡ stop lazy → ⊥
 another-stop true e = omega arith
 another-stop false e = omega arith
@@ -103,6 +109,7 @@ module _ (lazy : Bool) (A : Relation) (la : IsUnambiguous A) where
       (agree-apart _ _ _ _ (stop-another lazy))
       (agree-Choose (stop lazy) Stays Stays agree-Stays)
 
+  -- numbers of turns that differ differ in a choice
   agree-Exactly : (n m : ℕ) → Agree (Exactly lazy A n) (Exactly lazy A m)
   agree-Exactly zero zero = agree-Choose (stop lazy) Stays Stays agree-Stays
   agree-Exactly zero (suc m) = agree-apart _ _ _ _ (stop-another lazy)

@@ -6,7 +6,7 @@ use Rattle.od_model.specs.declared.grammar.GrammarKind.TheVariants.{RuleFile, Qu
 use Rattle.od_model.specs.declared.grammar.Grammar.{Grammar}
 use Rattle.od_model.specs.declared.rule.Rule.{Rule}
 use Rattle.od_model.specs.declared.rule.Body.TheVariants as body
-use Rattle.od_model.specs.Given.{fold_text}
+use Rattle.od_model.specs.Document.Columns.{fold_text}
 use Rattle.od_model.specs.Matching.Words.{words_surface}
 
 -- the pieces between single spaces

@@ -1,8 +1,12 @@
--- The laws of derivations and scans.
-use Rattle.std.specs.Prelude.{◌≡◌, ℕ, ◌≤◌, List, [], ◌++◌}
+-- The laws of derivations, scans, paths and sameness.
+use Rattle.std.specs.Prelude.{◌≡◌, ◌↔◌, IsTrue, ℕ, ◌<◌, ◌≤◌, true, List, [], ◌++◌, length}
 use Rattle.od_model.specs.Matching.Choice.{Capture}
 use Rattle.od_model.specs.Matching.Derives.{World, derives}
 use Rattle.od_model.specs.Matching.Scan.{IsBest, Match, Scans, world_in, scan_of}
+use Rattle.od_model.specs.Matching.Reach.{Set, leads, reached}
+use Rattle.od_model.specs.Matching.Mentions.{same_mention}
+use Rattle.od_model.specs.declared.mention.Mention.{Mention}
+use Rattle.od_model.specs.declared.path.Path.{Path}
 use Rattle.od_model.specs.declared.sentence.Sentence.{Sentence}
 use Rattle.od_model.specs.declared.mention.Labelled.{Labelled}
 use Rattle.od_model.specs.declared.pattern.Surface.{Surface}
@@ -32,3 +36,13 @@ ScanIsComputed = (p : Surface) (s : Sentence) (labels : List Labelled) → Scans
 -- from a place on there is at most one list of matches
 abbrev pub OneScan : Type 0
 OneScan = (w : World) (p : Surface) (i : ℕ) (a b : List Match) → Scans w p i a → Scans w p i b → a ≡ b
+
+-- from the tokens of a set a path leads to exactly those that are computed
+abbrev pub ReachIsComputed : Type 0
+ReachIsComputed =
+    (s : Sentence) (p : Path) (marked : Set) (b : ℕ) → ((k : ℕ) → marked k ≡ true → k < length s.tokens)
+    → (reached s p marked b ≡ true) ↔ ((a : ℕ) × (marked a ≡ true) × leads s p a b)
+
+-- two mentions pass the test of sameness exactly where they are equal
+abbrev pub SamenessIsEquality : Type 0
+SamenessIsEquality = (a b : Mention) → IsTrue (same_mention a b) ↔ (a ≡ b)

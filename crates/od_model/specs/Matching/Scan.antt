@@ -1,5 +1,5 @@
 -- The best derivation at a place, and the matches of a pattern one after another.
-use Rattle.std.specs.Prelude.{ℕ, zero, suc, ◌+◌, ◌<◌, ◌≤◌, Bool, ◌&&◌, ◌==◌, nat_lt, if◌then◌else◌, List, [], ◌∷◌, length, Option, Some, None, bytes_eq}
+use Rattle.std.specs.Prelude.{ℕ, zero, suc, ◌+◌, ◌-◌, ◌<◌, ◌≤◌, Bool, ◌&&◌, ◌==◌, nat_lt, if◌then◌else◌, List, [], ◌∷◌, length, Option, Some, None, bytes_eq}
 use Rattle.std.specs.List.{list_any}
 use Rattle.od_model.specs.Matching.Choice.{Capture, Before}
 use Rattle.od_model.specs.Matching.First.{Ending, accept}
@@ -47,6 +47,10 @@ take_or_go on i (Some o) = if nat_lt i o.end then record { start = i; end = o.en
 unfoldable pub scan_from : World → Surface → ℕ → ℕ → List Match
 scan_from w p zero i = []
 scan_from w p (suc n) i = if nat_lt i w.length then take_or_go (scan_from w p n) i (first w p accept i) else []
+
+-- the matches from place i on, computed
+abbrev pub scan_at : World → Surface → ℕ → List Match
+scan_at w p i = scan_from w p (w.length - i) i
 
 -- one of the labelled spans has this label, start and end
 abbrev pub is_span_in : List Labelled → List ℕ → ℕ → ℕ → Bool

@@ -1,7 +1,6 @@
 -- What the one-thread object is after a reply. An effect reads the reply and makes no test; a refusal changes nothing.
-use Rattle.std.specs.Prelude.{ℕ, List, [], ◌∷◌, ◌++◌, map, Option, Some, None, Result, Ok, Err, if◌then◌else◌, bytes_eq}
+use Rattle.std.specs.Prelude.{ℕ, List, [], ◌∷◌, ◌++◌, map, Option, Some, None, if◌then◌else◌, bytes_eq}
 use Rattle.od_model.specs.declared.doc.Doc.{Doc}
-use Rattle.od_model.specs.declared.conllu.ConlluFault.{ConlluFault}
 use Rattle.od_model.specs.declared.grammar.Head.{Head}
 use Rattle.od_model.specs.declared.mention.Mention.{Mention}
 use Rattle.od_model.specs.declared.mention.RoundResult.{RoundResult}
@@ -13,13 +12,13 @@ use Rattle.od_model.specs.declared.history.Reply.TheVariants.{Added, Opened, Ste
 use Rattle.od_model.specs.declared.history.Entry.{Entry}
 use Rattle.od_model.specs.declared.object.SessionState.{SessionState}
 use Rattle.od_model.specs.declared.object.OneThread.{OneThread}
-use Rattle.od_model.specs.Given.{read_result}
+use Rattle.od_model.specs.Document.Building.{document_of}
 use Rattle.od_model.specs.Object.Parts.{head_of, round_at}
 
 -- the document, where the bytes are one
-abbrev pub doc_made : Result Doc ConlluFault → List Doc
-doc_made (Ok doc) = doc ∷ []
-doc_made (Err fault) = []
+abbrev pub doc_made : Option Doc → List Doc
+doc_made (Some doc) = doc ∷ []
+doc_made None = []
 
 -- each session of that name, changed
 abbrev pub change_one : List ℕ → (SessionState → SessionState) → SessionState → SessionState
@@ -50,7 +49,7 @@ opened name documents limit caller None = []
 opened name documents limit caller (Some head) = record { name = name; kind = head.kind; text = head.text; documents = documents; limit = limit; rounds = []; holder = Some caller } ∷ []
 
 abbrev pub effect_of : List Head → OneThread → ℕ → Command → Reply → OneThread
-effect_of heads o caller (AddDoc name body) (Added documents) = record o { docs = o.docs ++ doc_made (read_result name body) }
+effect_of heads o caller (AddDoc name body) (Added documents) = record o { docs = o.docs ++ doc_made (document_of name body) }
 effect_of heads o caller (OpenSession name grammar limit) (Opened documents shown) = record o { sessions = o.sessions ++ opened name documents limit caller (head_of grammar heads) }
 effect_of heads o caller (Step name) (Stepped round added phase) = record o { sessions = change name (stepped o.docs) o.sessions }
 effect_of heads o caller (Resume name) (Resumed documents limit round mentions phase) = record o { sessions = change name (taken_by caller) o.sessions }

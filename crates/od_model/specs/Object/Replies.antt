@@ -1,6 +1,5 @@
 -- What the one-thread object answers to a command. The tests of each command stand in their order.
 use Rattle.std.specs.Prelude.{◌≡◌, ℕ, ◌+◌, ◌≤◌, List, [], ◌∷◌, ◌++◌, length, sum, Option, Some, None, Result, Ok, Err, ◌||◌, if◌then◌else◌, ◌==◌, nat_lt, nat_le}
-use Rattle.od_model.specs.declared.doc.Doc.{Doc}
 use Rattle.od_model.specs.declared.conllu.ConlluFault.{ConlluFault}
 use Rattle.od_model.specs.declared.grammar.Head.{Head}
 use Rattle.od_model.specs.declared.mention.RoundResult.{RoundResult}
@@ -16,22 +15,22 @@ use Rattle.od_model.specs.declared.history.Refusal.{Refusal}
 use Rattle.od_model.specs.declared.history.Refusal.TheVariants.{BadDoc, Duplicate, Full, NoGrammar, BadLimit, Taken, NoRoom, NoSession, Busy, NotHeld, Finished, AtLimit, Crowded, TooMany}
 use Rattle.od_model.specs.declared.object.SessionState.{SessionState}
 use Rattle.od_model.specs.declared.object.OneThread.{OneThread}
-use Rattle.od_model.specs.Given.{read_result}
+use Rattle.od_model.specs.Document.Faults.{doc_fault}
 use Rattle.od_model.specs.Lists.{Each}
 use Rattle.od_model.specs.Rounds.Round.{joined}
 use Rattle.od_model.specs.Object.Due.{due}
 use Rattle.od_model.specs.Object.Parts.{has_doc, size_of, sentence_count, is_full, session_of, has_session, head_of, is_known, phase_with, round_at}
 
--- a document that was read, or its first fault
-abbrev pub reply_read : OneThread → List ℕ → Result Doc ConlluFault → Reply
-reply_read o name (Err fault) = Refused (BadDoc fault.line fault.kind)
-reply_read o name (Ok doc) =
+-- bytes with a fault, or a document of their length
+abbrev pub reply_read : OneThread → List ℕ → List ℕ → Option ConlluFault → Reply
+reply_read o name body (Some fault) = Refused (BadDoc fault.line fault.kind)
+reply_read o name body None =
     if has_doc o name then Refused Duplicate
-    else (if is_full o doc.size then Refused (Full (length o.docs) (size_of o.docs))
+    else (if is_full o (length body) then Refused (Full (length o.docs) (size_of o.docs))
     else Added (length o.docs + 1))
 
 abbrev pub reply_doc : OneThread → List ℕ → List ℕ → Reply
-reply_doc o name body = reply_read o name (read_result name body)
+reply_doc o name body = reply_read o name body (doc_fault body)
 
 -- a session of a grammar that the script may have
 abbrev pub reply_headed : OneThread → List ℕ → ℕ → Option Head → Reply

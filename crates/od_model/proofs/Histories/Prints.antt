@@ -1,0 +1,68 @@
+-- A print of a legal history shows the rounds.
+use Rattle.std.proofs.Common.{◌≡◌, ℕ, List, ◌∷◌, ◌++◌, length, Option, Some, None, Ok, Err, Bool, true, false, if◌then◌else◌, refl, ap, eqb, subst}
+use Rattle.od_model.specs.declared.grammar.Head.{Head}
+use Rattle.od_model.specs.declared.history.Phase.{Phase}
+use Rattle.od_model.specs.declared.history.Reply.TheVariants.{Printed}
+use Rattle.od_model.specs.declared.history.Refusal.TheVariants.{Busy}
+use Rattle.od_model.specs.declared.history.Entry.{Entry}
+use Rattle.od_model.specs.declared.object.SessionState.{SessionState}
+use Rattle.od_model.specs.declared.object.OneThread.{OneThread}
+use Rattle.od_model.specs.Lists.{Each}
+use Rattle.od_model.specs.Rounds.Round.{joined}
+use Rattle.od_model.specs.Object.Parts.{is_named, session_of, phase_with}
+use Rattle.od_model.specs.Object.Replies.{held, held_in, held_as, reply_print}
+use Rattle.od_model.specs.History.Legal.{state_after, Legal}
+use Rattle.od_model.specs.History.Lines.{lines_of_session}
+use Rattle.od_model.specs.History.Prints.{ShowsRounds, IsAccepted, PrintsRounds}
+use Rattle.od_model.proofs.Lists.{Each-find}
+use Rattle.od_model.proofs.Histories.Steps.{Legal-front, Legal-at}
+use Rattle.od_model.proofs.Histories.Sound.{IsSound, IsSoundSession, sound-after, grammar-is}
+
+-- what a print says of the session that it finds
+record IsPrinted (s : SessionState) (number mentions : ℕ) (state : Phase) : Type 0 where
+  number_is : number ≡ length s.rounds
+  mentions_are : mentions ≡ length (joined s.rounds)
+  state_is : state ≡ phase_with s s.rounds
+
+printed-same : (s : SessionState) (number mentions : ℕ) (state : Phase) → Printed number mentions state ≡ reply_print (Ok s) → IsPrinted s number mentions state
+printed-same s number mentions state e = record { number_is = cc; mentions_are = cc; state_is = cc }
+
+owned : (s : SessionState) (owner number mentions : ℕ) (state : Phase) (b : Bool) → Printed number mentions state ≡ reply_print (if b then Ok s else Err (Busy owner)) → IsPrinted s number mentions state
+owned s owner number mentions state true e = printed-same s number mentions state e
+owned s owner number mentions state false e = absurd (cc)
+
+printed-held : (caller : ℕ) (s : SessionState) (number mentions : ℕ) (state : Phase) (holder : Option ℕ) → Printed number mentions state ≡ reply_print (held_as caller s holder) → IsPrinted s number mentions state
+printed-held caller s number mentions state None e = absurd (cc)
+printed-held caller s number mentions state (Some owner) e = owned s owner number mentions state (eqb owner caller) e
+
+printed-of : (o : OneThread) (caller : ℕ) (name : List ℕ) (number mentions : ℕ) (state : Phase) (found : Option SessionState) → session_of name o.sessions ≡ found → Printed number mentions state ≡ reply_print (held_in caller found)
+    → (s : SessionState) × (session_of name o.sessions ≡ Some s) × IsPrinted s number mentions state
+printed-of o caller name number mentions state None at e = absurd (cc)
+printed-of o caller name number mentions state (Some s) at e = (s, at, printed-held caller s number mentions state s.holder e)
+
+shows : (o : OneThread) (name : List ℕ) (number mentions : ℕ) (state : Phase) (s : SessionState) → Each (IsSoundSession o.docs) o.sessions → session_of name o.sessions ≡ Some s → IsPrinted s number mentions state
+    → ShowsRounds o name number state (lines_of_session o.docs name (session_of name o.sessions))
+shows o name number mentions state s sound at p =
+    let own : IsSoundSession o.docs s = Each-find (IsSoundSession o.docs) (is_named name) s o.sessions sound at in
+    record {
+      session = s;
+      is = at;
+      grammar = own.grammar;
+      reads = own.reads;
+      lists = s.rounds;
+      rounds_are = rw p.number_is own.rounds_are;
+      lines_are = ap (lines_of_session o.docs name) at;
+      state_is = rw (grammar-is s own.grammar own.reads) at p.state_is;
+      first_finished = own.unfinished;
+    }
+
+-- every print of a legal history from a sound object, with accepted heads, shows the rounds
+pub prints-rounds : (start : OneThread) (heads : List Head) (history : List Entry) → IsSound start → Each IsAccepted heads → Legal start heads history → PrintsRounds start heads history
+prints-rounds start heads history sound accepted whole front e rest name number mentions state is command-is reply-is =
+    let legal : Legal start heads (front ++ e ∷ rest) = subst (Legal start heads) is whole in
+    let o = state_after start heads front in
+    let h = sound-after start heads accepted front sound (Legal-front start heads front (e ∷ rest) legal) in
+    let next = Legal-at start heads front e rest legal in
+    let says : Printed number mentions state ≡ reply_print (held o e.caller name) = rw (command-is, reply-is) at next.replies in
+    let found = printed-of o e.caller name number mentions state (session_of name o.sessions) refl says in
+    rw (command-is, reply-is) (shows o name number mentions state found.0 h.sound found.1 found.2)

@@ -1,0 +1,95 @@
+-- Patterns on short sentences, worked out.
+use Rattle.std.proofs.Common.{◌≡◌, ℕ, List, [], ◌∷◌, refl, lit<, lit≤}
+use Rattle.std.proofs.lemmas.List.Elements.{All-nil}
+use Rattle.std.specs.Prelude.{Bool, true, false, codes, Some, None}
+use denote.Hole.Carrier.{hidden}
+use Rattle.od_model.specs.Matching.Choice.{Capture}
+use Rattle.od_model.specs.Matching.Holds.{holds}
+use Rattle.od_model.specs.Matching.Derives.{first}
+use Rattle.od_model.specs.Matching.Scan.{Match, scan_from, scan_of}
+use Rattle.od_model.specs.declared.token.Token.{Token}
+use Rattle.od_model.specs.declared.sentence.Sentence.{Sentence}
+use Rattle.od_model.specs.declared.pattern.Field.TheVariants.{Norm, Tag}
+use Rattle.od_model.specs.declared.pattern.Value.TheVariants.{Plain}
+use Rattle.od_model.specs.declared.pattern.Constraint as constraint
+use Rattle.od_model.specs.declared.pattern.Surface as surface
+use Rattle.od_model.specs.declared.pattern.Surface.{Surface}
+use Rattle.od_model.specs.declared.pattern.Surface.TheBlock.{hidden-the_row-Surface-0, hidden-the_row-Surface-1}
+
+-- a token with a norm and a tag
+abbrev word : List ℕ → List ℕ → Token
+word norm tag = record { word = norm; norm = norm; lemma = None; upos = None; tag = Some tag; entity = None; chunk = None }
+
+-- a sentence of three tokens without edges
+abbrev three : Token → Token → Token → Sentence
+three a b c = record { tokens = a ∷ b ∷ c ∷ []; edges = []; some = lit< tt; few = lit≤ tt; ends = All-nil _; distinct = refl }
+
+abbrev tagged : List ℕ → List ℕ → List ℕ → Sentence
+tagged a b c = three (word (codes "w") a) (word (codes "w") b) (word (codes "w") c)
+
+abbrev tag : List ℕ → Surface
+tag text = surface.Token (constraint.Is Tag (Plain text))
+
+-- a repeat without a most
+abbrev endless : ℕ → Bool → Surface → Surface
+endless least lazy p = surface.Repeat p (record { least = least; most = None; lazy = lazy })
+
+-- as few tokens as possible
+abbrev any_lazy : Surface
+any_lazy = endless 0 true (surface.Token constraint.Any)
+
+abbrev match : ℕ → ℕ → List Capture → Match
+match i j captures = record { start = i; end = j; captures = captures }
+
+abbrev x_at : ℕ → ℕ → List Capture
+x_at i j = (record { name = codes "x"; start = i; end = j }) ∷ []
+
+-- `[]*? (?<x>[tag=NN]+)` on NN NN NN
+greedy_capture : scan_of (surface.Seq (any_lazy ∷ surface.Capture (codes "x") (endless 1 false (tag (codes "NN"))) ∷ [])) (tagged (codes "NN") (codes "NN") (codes "NN")) []
+    ≡ match 0 3 (x_at 0 3) ∷ []
+unfolding scan_of scan_from first holds hidden hidden-the_row-Surface-0 hidden-the_row-Surface-1
+greedy_capture = refl
+
+-- `[]*? (?<x>[tag=NN]+?)` on NN NN NN
+lazy_capture : scan_of (surface.Seq (any_lazy ∷ surface.Capture (codes "x") (endless 1 true (tag (codes "NN"))) ∷ [])) (tagged (codes "NN") (codes "NN") (codes "NN")) []
+    ≡ match 0 1 (x_at 0 1) ∷ match 1 2 (x_at 1 2) ∷ match 2 3 (x_at 2 3) ∷ []
+unfolding scan_of scan_from first holds hidden hidden-the_row-Surface-0 hidden-the_row-Surface-1
+lazy_capture = refl
+
+-- `[]*? [tag=VB]` on NN NN VB
+up_to_tag : scan_of (surface.Seq (any_lazy ∷ tag (codes "VB") ∷ [])) (tagged (codes "NN") (codes "NN") (codes "VB")) [] ≡ match 0 3 [] ∷ []
+unfolding scan_of scan_from first holds hidden hidden-the_row-Surface-0 hidden-the_row-Surface-1
+up_to_tag = refl
+
+abbrev plain : List ℕ → Surface
+plain text = surface.Token (constraint.Is Norm (Plain text))
+
+abbrev up_to : ℕ → Bool → Surface → Surface
+up_to most lazy p = surface.Repeat p (record { least = 0; most = Some most; lazy = lazy })
+
+abbrev a_a_b : Sentence
+a_a_b = three (word (codes "a") (codes "NN")) (word (codes "a") (codes "NN")) (word (codes "b") (codes "NN"))
+
+-- `(a?){0,3}` on a a b: a further turn takes a token
+further_turns : scan_of (up_to 3 false (up_to 1 false (plain (codes "a")))) a_a_b [] ≡ match 0 2 [] ∷ []
+unfolding scan_of scan_from first holds hidden hidden-the_row-Surface-0 hidden-the_row-Surface-1
+further_turns = refl
+
+-- `(a??){0,3}` on a a b: where the turn's own preferred way takes nothing, the other one is taken
+lazy_turns : scan_of (up_to 3 false (up_to 1 true (plain (codes "a")))) a_a_b [] ≡ match 0 2 [] ∷ []
+unfolding scan_of scan_from first holds hidden hidden-the_row-Surface-0 hidden-the_row-Surface-1
+lazy_turns = refl
+
+-- `a??` on a a b: the best way takes nothing, and so is no match
+lazy_option : scan_of (up_to 1 true (plain (codes "a"))) a_a_b [] ≡ []
+unfolding scan_of scan_from first holds hidden hidden-the_row-Surface-0 hidden-the_row-Surface-1
+lazy_option = refl
+
+-- `a?? | b` on a a b has no match, and `b | a??` has b
+first_part_empty : scan_of (surface.Alt (up_to 1 true (plain (codes "a")) ∷ plain (codes "b") ∷ [])) a_a_b [] ≡ []
+unfolding scan_of scan_from first holds hidden hidden-the_row-Surface-0 hidden-the_row-Surface-1
+first_part_empty = refl
+
+last_part_empty : scan_of (surface.Alt (plain (codes "b") ∷ up_to 1 true (plain (codes "a")) ∷ [])) a_a_b [] ≡ match 2 3 [] ∷ []
+unfolding scan_of scan_from first holds hidden hidden-the_row-Surface-0 hidden-the_row-Surface-1
+last_part_empty = refl

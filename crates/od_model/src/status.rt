@@ -1,0 +1,20 @@
+//! How a call of the program ends.
+
+/// How a call of the program ends, each way with its exit status.
+#[derive(Clone, Copy, Debug, PartialEq, Eq)]
+pub enum Status {
+    /// 0: every command was answered, and none was refused.
+    Done,
+    /// 1: every command was answered, and some were refused.
+    Refused,
+    /// 2: the words are not those of the program.
+    Usage,
+    /// 3: the input is no script.
+    NoScript,
+    /// 7: a read failed.
+    ReadFault,
+    /// 8: a write failed.
+    WriteFault,
+    /// 9: memory was refused.
+    NoMemory,
+}
