@@ -2,3 +2,7 @@
 pub mod Cuts
 pub mod Queries
 pub mod Scripts
+mod LineExamples
+pub mod LineFloats
+pub mod LineTokens
+pub mod LineWords

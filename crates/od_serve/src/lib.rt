@@ -4,3 +4,4 @@
 mod cut;
 pub mod query;
 pub mod script;
+pub mod lines;
