@@ -6,3 +6,8 @@ mod LineExamples
 pub mod LineFloats
 pub mod LineTokens
 pub mod LineWords
+pub mod NextRounds
+pub mod Notes
+pub mod Phases
+pub mod Scans
+pub mod Walks

@@ -1,3 +1,7 @@
 -- The words of this crate, each named by a line `pub mod`.
 pub mod Cuts
 pub mod Scripts
+pub mod Hashes
+pub mod Known
+pub mod Queries
+pub mod Walks

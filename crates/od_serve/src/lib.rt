@@ -2,6 +2,10 @@
 #![tactic(auto)]
 
 mod cut;
-pub mod query;
-pub mod script;
+pub mod known;
 pub mod lines;
+pub mod query;
+pub mod round;
+pub mod scan;
+pub mod script;
+mod walk;
