@@ -57,9 +57,11 @@ settled = refl
 abbrev token : List ℕ → Token
 token word = record { word = word; norm = word; lemma = None; upos = None; tag = None; entity = None; chunk = None }
 
+-- the sentence of the examples
 abbrev sentence : Sentence
 sentence = record { tokens = token (codes "The") ∷ token (codes "Dogs") ∷ token (codes "bark") ∷ []; edges = []; some = lit< tt; few = lit≤ tt; ends = All-nil _; distinct = refl }
 
+-- its document
 abbrev document : Doc
 document = record { name = codes "d1"; size = 75; sentences = sentence ∷ []; some = lit< tt; small = lit≤ tt; weight = lit≤ tt }
 
