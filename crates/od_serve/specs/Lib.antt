@@ -1,1 +1,7 @@
--- The definitions of this crate stand in the base crate.
+-- The words of this crate, each named by a line `pub mod`.
+pub mod Cuts
+pub mod Scripts
+pub mod Hashes
+pub mod Known
+pub mod Queries
+pub mod Walks
