@@ -13,7 +13,7 @@ use od_model::token::Token;
 use std::alloc::Global;
 
 /// Whether the tokens begin with the words, by their norms.
-pub fn begin_with(words: &[Text], tokens: &[Token]) -> bool
+fn begin_with(words: &[Text], tokens: &[Token]) -> bool
     ensures begins { result ≡ begins_with words.now tokens.now }
     ensures fits { IsTrue result → length words.now ≤ length tokens.now }
 {
