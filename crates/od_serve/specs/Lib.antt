@@ -1,7 +1,8 @@
 -- The words of this crate, each named by a line `pub mod`.
 pub mod Cuts
-pub mod Scripts
 pub mod Hashes
 pub mod Known
 pub mod Queries
+pub mod Scripts
+pub mod Stores
 pub mod Walks

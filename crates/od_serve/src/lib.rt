@@ -1,11 +1,13 @@
 //! The server: reads a script, answers its commands by the one-thread object, and writes the lines.
 #![tactic(auto)]
-
 mod cut;
+mod walk;
+
 pub mod known;
 pub mod lines;
+pub mod names;
 pub mod query;
 pub mod round;
 pub mod scan;
 pub mod script;
-mod walk;
+pub mod store;
