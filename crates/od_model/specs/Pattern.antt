@@ -1,0 +1,5 @@
+pub mod Identifier
+pub mod Depth
+pub mod Fields
+pub mod Grammar
+pub mod FirstFault
