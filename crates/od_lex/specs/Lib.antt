@@ -1,0 +1,4 @@
+pub mod Forms
+pub mod Machine
+pub mod Reading
+pub mod Tokens

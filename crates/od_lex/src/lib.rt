@@ -1,0 +1,6 @@
+//! The lexemes of the pattern language, and the constraints that are written with them.
+#![tactic(auto)]
+
+mod form;
+pub mod lexer;
+mod scan;
