@@ -3,3 +3,4 @@ pub mod Depth
 pub mod Fields
 pub mod Grammar
 pub mod FirstFault
+pub mod Machine
