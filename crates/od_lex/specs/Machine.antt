@@ -15,6 +15,7 @@ use Rattle.od_model.specs.declared.lexeme.LexKind.{LexKind}
 use Rattle.od_model.specs.declared.lexeme.LexKind.TheVariants.{Word, Quoted, Regex, SquareOpen, SquareClose, RoundOpen, RoundClose, And, Or, Not, Equal}
 use Rattle.od_model.specs.Pattern.Fields.{field_named, compared_text}
 use Rattle.od_model.specs.Pattern.Depth.{depth_behind, broken_rule}
+use Rattle.od_model.specs.Pattern.Machine.{◌>>=◌, Outcome}
 
 -- the brackets that are open, the innermost first: behind a `(` with the `!` before it, and the operands before that
 pub data Open : Type 0 where
@@ -104,18 +105,13 @@ step (equals f n a o k) x = step_equals x f n a o k
 step (after c o k) x = step_after x c o k
 step (done c) x = Err kind.Expected
 
-infixl 10 ◌>>=◌
-abbrev pub ◌>>=◌ : {A B E : Type 0} → Result A E → (A → Result B E) → Result B E
-(Ok x) >>= f = f x
-(Err e) >>= f = Err e
+-- the constraint, where the machine may end
+abbrev pub ended : State → Option Constraint
+ended (done c) = Some c
+ended s = None
 
--- the grammar alone
-abbrev pub steps : State → List LexKind → Result State PatternKind
-steps s [] = Ok s
-steps s (x ∷ l) = step s x >>= λ t. steps t l
-
-abbrev pub Outcome : Type 0
-Outcome = Result (Constraint × List Lexeme) (ℕ × PatternKind)
+abbrev pub Reading : Type 0
+Reading = Outcome Constraint
 
 abbrev pub marked : {A : Type 0} → ℕ → Result A PatternKind → Result A (ℕ × PatternKind)
 marked at (Ok x) = Ok x
@@ -126,13 +122,13 @@ unbroken at None = Ok tt
 unbroken at (Some k) = Err (at, k)
 
 -- with the rules of each lexeme, up to the end of the constraint
-abbrev pub run : ℕ → State → List Lexeme → Outcome
+abbrev pub run : ℕ → State → List Lexeme → Reading
 run d (done c) l = Ok (c, l)
 run d s [] = Err (0, kind.Expected)
 run d s (x ∷ l) = marked x.at (step s x.kind) >>= λ t. unbroken x.at (broken_rule d x.kind) >>= λ _. run (depth_behind d x.kind) t l
 
 -- what a part of the parser answers: how the reading goes on, or its fault
-abbrev pub Leads : {X : Type 0} → Result X PatternFault → Outcome → (X → Outcome) → Type 0
+abbrev pub Leads : {X : Type 0} → Result X PatternFault → Reading → (X → Reading) → Type 0
 Leads (Ok x) reading on = reading ≡ on x
 Leads (Err fault.NoMemory) reading on = Unit {0}
 Leads (Err (fault.Bad at k)) reading on = reading ≡ Err (at, k)

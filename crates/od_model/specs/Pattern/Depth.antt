@@ -1,10 +1,11 @@
 -- How deep lexemes are nested, and the rules that a lexeme may break by itself.
-use Rattle.std.specs.Prelude.{◌≡◌, ℕ, suc, ◌-◌, List, [], ◌∷◌, Option, Some, None, if◌then◌else◌, nat_lt, length}
+use Rattle.std.specs.Prelude.{◌≡◌, ℕ, suc, ◌-◌, List, [], ◌∷◌, Option, Some, None, if◌then◌else◌, nat_lt, length, take}
 use Rattle.od_model.specs.declared.pattern_fault.PatternKind.{PatternKind}
 use Rattle.od_model.specs.declared.pattern_fault.PatternKind.TheVariants as kind
 use Rattle.od_model.specs.declared.lexeme.Lexeme.{Lexeme}
 use Rattle.od_model.specs.declared.lexeme.LexKind.{LexKind}
 use Rattle.od_model.specs.declared.lexeme.LexKind.TheVariants.{Regex, NameOpen, AheadIs, AheadNot, BehindIs, BehindNot, SquareOpen, SquareClose, RoundOpen, RoundClose}
+use Rattle.od_model.specs.Pattern.FirstFault.{Rules, kinds}
 
 -- the brackets that are open behind a lexeme, where `depth` are open before it
 abbrev pub depth_behind : ℕ → LexKind → ℕ
@@ -41,5 +42,9 @@ broken_rule depth BehindNot = too_deep depth
 broken_rule depth _ = None
 
 -- the same behind a front of lexemes, before which `opened` brackets are open
-abbrev pub BreaksRule : ℕ → List LexKind → LexKind → PatternKind → Type 0
+abbrev pub BreaksRule : ℕ → Rules
 BreaksRule opened front x k = broken_rule (depth_after opened front) x ≡ Some k
+
+-- the brackets that are open before a place
+abbrev pub depth_before : List Lexeme → ℕ → ℕ
+depth_before lexemes from = depth_after 0 (kinds (take from lexemes))
