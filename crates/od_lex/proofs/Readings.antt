@@ -6,7 +6,8 @@ use Rattle.od_model.specs.declared.lexeme.LexKind.{LexKind}
 use Rattle.od_model.specs.declared.lexeme.LexKind.TheVariants as lexeme
 use Rattle.od_model.specs.declared.lexeme.Miss.{Miss}
 use Rattle.od_model.specs.Pattern.FirstFault.{IsEnded}
-use Rattle.od_lex.specs.Forms.{bytes, form}
+use Rattle.od_lex.specs.Forms.{form}
+use Rattle.od_model.specs.Pattern.Lexing.{size_of as bytes}
 use Rattle.od_lex.specs.Reading.{Formed, end, stuck, white, next}
 
 ended_more : (x : Lexeme) (xs : List Lexeme) → IsEnded xs → IsEnded (x ∷ xs)

@@ -8,7 +8,8 @@ use Rattle.od_model.specs.declared.lexeme.Lexeme.{Lexeme}
 use Rattle.od_model.specs.declared.lexeme.LexKind.{LexKind}
 use Rattle.od_model.specs.declared.lexeme.LexKind.TheVariants as lexeme
 use Rattle.od_model.specs.declared.lexeme.Miss.{Miss}
-use Rattle.od_lex.specs.Forms.{bytes, form}
+use Rattle.od_lex.specs.Forms.{form}
+use Rattle.od_model.specs.Pattern.Lexing.{size_of as bytes}
 use Rattle.od_lex.specs.Reading.{Formed, end, stuck, white, next}
 
 bytes_next : (xs : List ℕ) (i c : ℕ) → i < length xs → c ≡ get_or xs i c → bytes (take (suc i) xs) ≡ bytes (take i xs) + len_utf8 c

@@ -4,6 +4,7 @@ use Rattle.std.specs.List.{prefix_len}
 use Rattle.std.specs.Char.{encode_utf8}
 use Rattle.std.specs.Str.{encode_utf8_all}
 use Rattle.od_lex.specs.Forms as lex
+use Rattle.od_model.specs.Pattern.Spelling.{value_from}
 
 spelled_next : (xs : List ℕ) (i : ℕ) (c : ℕ) → i < length xs → c ≡ get_or xs i c → encode_utf8_all (take (suc i) xs) ≡ encode_utf8_all (take i xs) ++ encode_utf8 c
 spelled_next [] i c h e = absurd (omega arith)
@@ -21,7 +22,7 @@ pub before_none : (o : Option (List ℕ × List ℕ)) → lex.before [] o ≡ o
 before_none None = refl
 before_none (Some x) = refl
 
-pub value_grows : (n : ℕ) (ds : List ℕ) → n ≤ lex.value_of n ds
+pub value_grows : (n : ℕ) (ds : List ℕ) → n ≤ value_from n ds
 value_grows n [] = omega arith
 value_grows n (d ∷ ds) = omega (arith, value_grows (n * 10 + (d - 48)) ds)
 

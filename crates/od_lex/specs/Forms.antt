@@ -11,12 +11,7 @@ use Rattle.od_model.specs.declared.lexeme.Lexeme.{Lexeme}
 use Rattle.od_model.specs.declared.lexeme.LexKind.{LexKind}
 use Rattle.od_model.specs.declared.lexeme.LexKind.TheVariants as lexeme
 use Rattle.od_model.specs.Pattern.Identifier.{in_identifier, is_identifier}
-
-abbrev pub begins_word : ℕ → Bool
-begins_word c = is_ascii_alphanumeric c || c == 95 || (nat_le 128 c && not (is_whitespace c))
-
-abbrev pub goes_on : ℕ → Bool
-goes_on c = begins_word c || c == 45 || c == 58
+use Rattle.od_model.specs.Pattern.Spelling.{begins_word, in_word, is_quote, pair, number}
 
 -- c before what is spelled
 abbrev pub before : List ℕ → Option (List ℕ × List ℕ) → Option (List ℕ × List ℕ)
@@ -32,10 +27,6 @@ quoted q false (c ∷ cs) =
     if c == 92 then quoted q true cs else
     before (encode_utf8 c) (quoted q false cs)
 
--- a backslash and a character
-abbrev pub pair : ℕ → List ℕ
-pair c = if c == 47 then encode_utf8 c else 92 ∷ encode_utf8 c
-
 -- up to the slash; of pairs only `\/` is changed
 abbrev pub regex : Bool → List ℕ → Option (List ℕ × List ℕ)
 regex e [] = None
@@ -46,7 +37,7 @@ regex false (c ∷ cs) =
     before (encode_utf8 c) (regex false cs)
 
 abbrev pub text_of : ℕ → List ℕ → LexKind × List ℕ
-text_of c cs = (lexeme.Word (encode_utf8 c ++ encode_utf8_all (take (prefix_len goes_on cs) cs)), drop (prefix_len goes_on cs) cs)
+text_of c cs = (lexeme.Word (encode_utf8 c ++ encode_utf8_all (take (prefix_len in_word cs) cs)), drop (prefix_len in_word cs) cs)
 
 abbrev pub or_miss : (List ℕ → LexKind) → Miss → Option (List ℕ × List ℕ) → Result (LexKind × List ℕ) Miss
 or_miss f m None = Err m
@@ -110,19 +101,6 @@ abbrev pub round : List ℕ → LexKind × List ℕ
 round [] = (lexeme.RoundOpen, [])
 round (c ∷ cs) = if c == 63 then or_round (looking cs) (c ∷ cs) else (lexeme.RoundOpen, c ∷ cs)
 
-abbrev pub value_of : ℕ → List ℕ → ℕ
-value_of n [] = n
-value_of n (d ∷ ds) = value_of (n * 10 + (d - 48)) ds
-
--- a number to 1,000 without a leading zero
-abbrev pub number : List ℕ → Option ℕ
-number [] = None
-number (d ∷ ds) =
-    if d == 48 && not (length ds == 0) then None else
-    if nat_lt 3 (length ds) then None else
-    if nat_lt 1000 (value_of 0 (d ∷ ds)) then None else
-    Some (value_of 0 (d ∷ ds))
-
 abbrev pub to_bound : ℕ → Option ℕ → Option (ℕ × Option ℕ)
 to_bound n None = None
 to_bound n (Some m) = Some (n, Some m)
@@ -171,17 +149,13 @@ or_bad m (Some x) = Ok x
 unfoldable pub form : ℕ → List ℕ → Result (LexKind × List ℕ) Miss
 form c cs =
     if begins_word c then Ok (text_of c cs) else
-    if c == 34 || c == 39 then or_miss lexeme.Quoted miss.OpenText (quoted c false cs) else
+    if is_quote c then or_miss lexeme.Quoted miss.OpenText (quoted c false cs) else
     if c == 47 then or_miss lexeme.Regex miss.OpenRegex (regex false cs) else
     if c == 40 then Ok (round cs) else
     if c == 123 then or_bad miss.BadNumber (range cs) else
     if c == 62 then Ok (doubled 62 lexeme.Along lexeme.AnyAlong cs) else
     if c == 60 then Ok (doubled 60 lexeme.Against lexeme.AnyAgainst cs) else
     single (symbol c) cs
-
-abbrev pub bytes : List ℕ → ℕ
-bytes [] = 0
-bytes (c ∷ cs) = len_utf8 c + bytes cs
 
 -- a text and a place, as a text and what is behind the place
 abbrev pub found : List ℕ → Option (List ℕ × ℕ) → Option (List ℕ × List ℕ)

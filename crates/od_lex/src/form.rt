@@ -3,6 +3,7 @@ ghost use Rattle.std.specs.Prelude.{◌≡◌, ℕ, ◌+◌, ◌-◌, ◌*◌, �
 ghost use Rattle.std.specs.List.{list_all};
 ghost use Rattle.od_lex.specs.Forms as lex;
 ghost use Rattle.od_model.specs.Pattern.Identifier as identifier;
+ghost use Rattle.od_model.specs.Pattern.Spelling as spelling;
 
 use crate::scan;
 use od_model::lexeme::{LexKind, Miss};
@@ -136,7 +137,7 @@ fn digit(c: char) -> u32
 #[tactic(auto, using(crate::proofs::Texts::value_grows))]
 fn number_from(n: u32, digits: &[char]) -> Option<u32>
     requires { n ≤ 1000 }
-    ensures { MatchOption result (1000 < lex.value_of n digits.now) (λ v. (v ≡ lex.value_of n digits.now) × (v ≤ 1000)) }
+    ensures { MatchOption result (1000 < spelling.value_from n digits.now) (λ v. (v ≡ spelling.value_from n digits.now) × (v ≤ 1000)) }
 {
     match digits {
         [] => Some(n),
@@ -152,15 +153,12 @@ fn number_from(n: u32, digits: &[char]) -> Option<u32>
 
 /// A number to 1,000 without a leading zero.
 pub fn number(digits: &[char]) -> Option<u32>
-    ensures { result ≡ lex.number digits.now }
+    ensures { result ≡ spelling.number digits.now }
 {
     match digits {
         [] => None,
         [d, rest @ ..] => {
             if *d == '0' && rest.len() != 0 {
-                return None;
-            }
-            if rest.len() > 3 {
                 return None;
             }
             number_from(0, digits)

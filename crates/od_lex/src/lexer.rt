@@ -2,7 +2,7 @@
 ghost use Rattle.std.specs.Prelude.{◌≡◌, ℕ, ◌+◌, ◌-◌, ◌^◌, ◌<◌, ◌≤◌, List, [], ◌∷◌, ◌++◌, drop, take, length, Option, Some, None, Ok, IfOk, OnOk, if◌then◌else◌};
 ghost use Rattle.std.specs.Str.{chars as chars_in};
 ghost use Rattle.od_model.specs.declared.lexeme.LexKind.TheVariants as lexeme;
-ghost use Rattle.od_lex.specs.Forms.{bytes};
+ghost use Rattle.od_model.specs.Pattern.Lexing.{size_of as bytes_of, Lexes};
 ghost use Rattle.od_lex.specs.Reading.{Formed};
 ghost use Rattle.od_model.specs.declared.lexeme.Lexeme.{Lexeme};
 ghost use Rattle.od_model.specs.declared.lexeme.Miss.{Miss};
@@ -18,8 +18,8 @@ use std::alloc::Global;
 /// How many bytes these characters have.
 #[tactic(auto, using(crate::proofs::Sizes::bytes_more, crate::proofs::Sizes::bytes_most))]
 fn size_of(part: &[char]) -> usize
-    requires { bytes part.now < 2 ^ 32 }
-    ensures { result ≡ bytes part.now }
+    requires { bytes_of part.now < 2 ^ 32 }
+    ensures { result ≡ bytes_of part.now }
 {
     let mut size = 0;
     for c in part {
@@ -44,7 +44,7 @@ fn add(out: &mut Vec<Lexeme>, at: usize, kind: LexKind) -> Result<(), NoMemory>
 /// The lexemes of these characters.
 #[tactic(auto, using(crate::proofs::Sizes::white_on, crate::proofs::Sizes::stuck_on, crate::proofs::Sizes::end_on, crate::proofs::Sizes::form_on, crate::proofs::Sizes::sized, std::proofs::Common::append_assoc))]
 fn lex_chars(alloc: Global, chars: &[char]) -> Result<(Vec<Lexeme>, Option<(u32, Miss)>), NoMemory>
-    requires { bytes chars.now < 2 ^ 32 }
+    requires { bytes_of chars.now < 2 ^ 32 }
     ensures { IfOk result (λ x. Formed 0 chars.now x.0.items x.1) }
 {
     let mut out = Vec::new(alloc);

@@ -5,6 +5,7 @@ ghost use Rattle.std.specs.Char.{encode_utf8, is_ascii_digit};
 ghost use Rattle.std.specs.Str.{encode_utf8_all, chars as chars_in};
 ghost use Rattle.od_lex.specs.Forms as lex;
 ghost use Rattle.od_model.specs.Pattern.Identifier as identifier;
+ghost use Rattle.od_model.specs.Pattern.Spelling as spelling;
 
 use od_model::text::{NoMemory, Text};
 use std::alloc::Global;
@@ -26,13 +27,13 @@ pub fn at(chars: &[char], i: usize) -> Option<char>
 }
 
 pub fn begins_word(c: char) -> bool
-    ensures { result ≡ lex.begins_word c }
+    ensures { result ≡ spelling.begins_word c }
 {
     c.is_ascii_alphanumeric() || c == '_' || (c as u32 >= 128 && !c.is_whitespace())
 }
 
-pub fn goes_on(c: char) -> bool
-    ensures { result ≡ lex.goes_on c }
+pub fn in_word(c: char) -> bool
+    ensures { result ≡ spelling.in_word c }
 {
     begins_word(c) || c == '-' || c == ':'
 }
@@ -54,11 +55,11 @@ pub fn in_identifier(c: char) -> bool
 pub fn word_end(chars: &[char], from: usize) -> usize
     requires { from ≤ length chars.now }
     ensures within { result ≤ length chars.now }
-    ensures value { result ≡ from + prefix_len lex.goes_on (drop from chars.now) }
+    ensures value { result ≡ from + prefix_len spelling.in_word (drop from chars.now) }
 {
     let mut i = from;
     while let Some(c) = at(chars, i) {
-        if !goes_on(c) {
+        if !in_word(c) {
             return i;
         }
         i += 1;
@@ -197,7 +198,7 @@ pub fn regex(alloc: Global, chars: &[char], from: usize) -> Result<Option<(Text,
 
 /// The pair of a backslash and a character; that of a slash is the slash alone.
 fn push_pair(text: &mut String, c: char) -> Result<(), NoMemory>
-    ensures { OnOk result (string_bytes text.new ≡ string_bytes text.old ++ lex.pair c) }
+    ensures { OnOk result (string_bytes text.new ≡ string_bytes text.old ++ spelling.pair c) }
 {
     if c == '/' {
         return push(text, c);
@@ -236,8 +237,8 @@ pub fn name(chars: &[char], from: usize) -> (&[char], usize)
 #[tactic(auto, using(crate::proofs::Texts::prefix_most, crate::proofs::Texts::part_is, crate::proofs::Texts::rest_is))]
 pub fn word(chars: &[char], from: usize) -> (&[char], usize)
     requires { from ≤ length chars.now }
-    ensures part { result.0.now ≡ take (prefix_len lex.goes_on (drop from chars.now)) (drop from chars.now) }
-    ensures rest { drop result.1 chars.now ≡ drop (prefix_len lex.goes_on (drop from chars.now)) (drop from chars.now) }
+    ensures part { result.0.now ≡ take (prefix_len spelling.in_word (drop from chars.now)) (drop from chars.now) }
+    ensures rest { drop result.1 chars.now ≡ drop (prefix_len spelling.in_word (drop from chars.now)) (drop from chars.now) }
     ensures within { (from ≤ result.1) × (result.1 ≤ length chars.now) }
 {
     let end = word_end(chars, from);

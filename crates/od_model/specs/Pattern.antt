@@ -1,4 +1,6 @@
 pub mod Identifier
+pub mod Spelling
+pub mod Lexing
 pub mod Depth
 pub mod Fields
 pub mod Grammar
