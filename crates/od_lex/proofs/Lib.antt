@@ -6,3 +6,4 @@ pub mod Complete
 pub mod Sound
 pub mod Closing
 pub mod Answers
+pub mod Spelled
