@@ -1,5 +1,5 @@
 -- Each text has one reading, and it ends with `End`.
-use Rattle.std.proofs.Common.{◌≡◌, ℕ, ◌+◌, Bool, true, false, List, [], ◌∷◌, ◌++◌, Option, Some, Result, Ok, Err, refl, sym, ◌∙◌, ap, subst, arith}
+use Rattle.std.proofs.Common.{◌≡◌, ℕ, zero, suc, ◌+◌, ◌≤◌, length, length-append, None, Bool, true, false, List, [], ◌∷◌, ◌++◌, Option, Some, Result, Ok, Err, refl, sym, ◌∙◌, ap, subst, arith}
 use Rattle.std.specs.Char.{len_utf8, is_whitespace}
 use Rattle.od_model.specs.declared.lexeme.Lexeme.{Lexeme}
 use Rattle.od_model.specs.declared.lexeme.LexKind.{LexKind}
@@ -8,6 +8,9 @@ use Rattle.od_model.specs.declared.lexeme.Miss.{Miss}
 use Rattle.od_model.specs.Pattern.FirstFault.{IsEnded}
 use Rattle.od_lex.specs.Forms.{form}
 use Rattle.od_model.specs.Pattern.Lexing.{size_of as bytes}
+use Rattle.od_model.specs.Pattern.Lexing.{OneReading}
+use Rattle.od_lex.proofs.Spelled.{FormIs, form_is}
+use Rattle.od_lex.proofs.Longest.{longest, by_forms}
 use Rattle.od_lex.specs.Reading.{Formed, end, stuck, white, next}
 
 ended_more : (x : Lexeme) (xs : List Lexeme) → IsEnded xs → IsEnded (x ∷ xs)
@@ -80,3 +83,35 @@ unique _ _ _ _ (next at c front rest k xs f w h l) _ _ _ e (next _ d ahead back 
     let place : at + len_utf8 d + bytes ahead ≡ at + len_utf8 c + bytes front = omega (arith, whole, size, len) in
     let u = unique (at + len_utf8 c + bytes front) rest xs f l back ys g same (subst (λ (z : ℕ). Formed z back ys g) place r) in
     (ap (λ z. (record { at = at; kind = z }) ∷ xs) like ∙ ap (λ z. (record { at = at; kind = j }) ∷ z) u.0, u.1)
+
+some_form : (n at c : ℕ) (cs : List ℕ) → length cs ≤ n → is_whitespace c ≡ false →
+    ((at : ℕ) (ds : List ℕ) → length ds ≤ n → (xs : List Lexeme) × (f : Option (ℕ × Miss)) × Formed at ds xs f) →
+    (q : Result (LexKind × List ℕ) Miss) → form c cs ≡ q → FormIs c cs q → (xs : List Lexeme) × (f : Option (ℕ × Miss)) × Formed at (c ∷ cs) xs f
+some_form n at c cs b w more (Err m) h t = ((record { at = at; kind = lexeme.End }) ∷ [], Some (at, m), stuck at c cs m w h)
+some_form n at c cs b w more (Ok x) h t =
+    let size : length cs ≡ length t.front + length x.1 = ap length t.parts ∙ length-append t.front x.1 in
+    let r = more (at + len_utf8 c + bytes t.front) x.1 (omega (arith, size, b)) in
+    ((record { at = at; kind = x.0 }) ∷ r.0, r.1,
+    subst (λ (z : List ℕ). Formed at (c ∷ z) ((record { at = at; kind = x.0 }) ∷ r.0) r.1) (sym t.parts)
+    (next at c t.front x.1 x.0 r.0 r.1 w (ap (form c) (sym t.parts) ∙ h) r.2))
+
+some_white : (n at c : ℕ) (cs : List ℕ) → length cs ≤ n →
+    ((at : ℕ) (ds : List ℕ) → length ds ≤ n → (xs : List Lexeme) × (f : Option (ℕ × Miss)) × Formed at ds xs f) →
+    (b : Bool) → is_whitespace c ≡ b → (xs : List Lexeme) × (f : Option (ℕ × Miss)) × Formed at (c ∷ cs) xs f
+some_white n at c cs s more true w = let r = more (at + len_utf8 c) cs s in (r.0, r.1, white at c cs r.0 r.1 w r.2)
+some_white n at c cs s more false w = some_form n at c cs s w more (form c cs) refl (form_is c cs)
+
+-- a reading of so many characters at most
+some_by : (n at : ℕ) (cs : List ℕ) → length cs ≤ n → (xs : List Lexeme) × (f : Option (ℕ × Miss)) × Formed at cs xs f
+some_by n at [] s = ((record { at = at; kind = lexeme.End }) ∷ [], None, end at)
+some_by zero at (c ∷ cs) s = absurd (omega arith)
+some_by (suc n) at (c ∷ cs) s = some_white n at c cs (omega arith) (some_by n) (is_whitespace c) refl
+
+pub one_reading : (cs : List ℕ) → OneReading cs
+one_reading cs =
+    let r = some_by (length cs) 0 cs (omega arith) in
+    record {
+      some = (r.0, r.1, longest 0 cs r.0 r.1 r.2);
+      unique = λ xs ys f g a b. unique 0 cs xs f (by_forms 0 cs xs f a) cs ys g refl (by_forms 0 cs ys g b);
+      ends = λ xs f a. ended 0 cs xs f (by_forms 0 cs xs f a);
+    }

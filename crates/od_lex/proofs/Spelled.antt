@@ -143,7 +143,7 @@ behind (c ∷ cs) = if_cases (TakenBy (40 ∷ 63 ∷ 60 ∷ []) (c ∷ cs)) (c =
 first_is : (before : List ℕ) (c d : ℕ) (cs : List ℕ) (o : Option (LexKind × List ℕ)) → c ≡ d → TakenBy (before ++ d ∷ []) cs o → TakenBy before (c ∷ cs) o
 first_is before c d cs o e h = subst (λ (z : ℕ). TakenBy before (z ∷ cs) o) (sym e) (taken_behind before d cs o h)
 
-looking : (cs : List ℕ) → TakenBy (40 ∷ 63 ∷ []) cs (form.looking cs)
+pub looking : (cs : List ℕ) → TakenBy (40 ∷ 63 ∷ []) cs (form.looking cs)
 unfolding symbol_of
 looking [] = tt
 looking (c ∷ cs) = if_cases (TakenBy (40 ∷ 63 ∷ []) (c ∷ cs)) (c == 61) _ _

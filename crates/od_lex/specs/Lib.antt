@@ -1,4 +1,3 @@
 pub mod Forms
 pub mod Machine
 pub mod Reading
-pub mod Tokens

@@ -1,13 +1,11 @@
 //! The lexemes of a text.
-ghost use Rattle.std.specs.Prelude.{◌≡◌, ℕ, ◌+◌, ◌-◌, ◌^◌, ◌<◌, ◌≤◌, List, [], ◌∷◌, ◌++◌, drop, take, length, Option, Some, None, Ok, IfOk, OnOk, if◌then◌else◌};
+ghost use Rattle.std.specs.Prelude.{◌≡◌, ℕ, ◌+◌, ◌-◌, ◌^◌, ◌<◌, ◌≤◌, List, [], ◌∷◌, ◌++◌, drop, take, length, Option, Some, None, Ok, IfOk, IfErr, OnOk, if◌then◌else◌};
 ghost use Rattle.std.specs.Str.{chars as chars_in};
 ghost use Rattle.od_model.specs.declared.lexeme.LexKind.TheVariants as lexeme;
-ghost use Rattle.od_model.specs.Pattern.Lexing.{size_of as bytes_of, Lexes};
+ghost use Rattle.od_model.specs.Pattern.Lexing.{size_of as bytes_of, Lexes, OneReading, IsLexFault, GivesLexemes, RefusesText, lex_fault};
 ghost use Rattle.od_lex.specs.Reading.{Formed};
 ghost use Rattle.od_model.specs.declared.lexeme.Lexeme.{Lexeme};
 ghost use Rattle.od_model.specs.declared.lexeme.Miss.{Miss};
-ghost use Rattle.od_model.specs.Pattern.FirstFault.{IsEnded};
-ghost use Rattle.od_lex.specs.Tokens.{IsLexed, FailsWith};
 
 use crate::form::{Stop, form};
 use crate::scan;
@@ -81,38 +79,61 @@ fn lex_chars(alloc: Global, chars: &[char]) -> Result<(Vec<Lexeme>, Option<(u32,
     }
 }
 
-/// The lexemes before the first fault, `End` at its place or at the text's length, and the fault.
-#[tactic(auto, using(crate::proofs::Sizes::bytes_of))]
-pub fn lex(alloc: Global, text: &str) -> Result<(Vec<Lexeme>, Option<(u32, Miss)>), NoMemory>
+/// The lexemes of a text up to its first fault.
+#[derive(Debug, Drop)]
+pub struct Lexed {
+    /// The lexemes. The last is `End`, at the place of the fault, else at the text's length.
+    pub lexemes: Vec<Lexeme>,
+    /// The fault, if there is one: its place in bytes from 0, and what is wrong there.
+    pub fault: Option<(u32, Miss)>,
+}
+
+/// The lexemes of a text up to its first fault, and the fault.
+///
+/// At each place the longest front that spells a lexeme is one. White space separates lexemes and means nothing else.
+#[tactic(auto, using(crate::proofs::Sizes::bytes_of, crate::proofs::Longest::longest_from))]
+pub fn lex(alloc: Global, text: &str) -> Result<Lexed, NoMemory>
     requires { length text.now < 2 ^ 32 }
-    ensures { IfOk result (λ x. Formed 0 (chars_in text.now) x.0.items x.1) }
+    ensures value { IfOk result (λ read. Lexes 0 (chars_in text.now) read.lexemes.items read.fault) }
+    // There is exactly one such reading.
+    ensures one_reading { OneReading (chars_in text.now) }
 {
     match scan::chars_of(alloc, text) {
-        Ok(chars) => lex_chars(alloc, &chars),
+        Ok(chars) => match lex_chars(alloc, &chars) {
+            Ok((lexemes, fault)) => Ok(Lexed { lexemes, fault }),
+            Err(e) => Err(e),
+        },
         Err(e) => Err(e),
     }
 }
 
-/// Each text has one reading, which ends with `End`.
-pub fn one_reading()
-    ensures ended { (cs : List ℕ) (xs : List Lexeme) (f : Option (ℕ × Miss)) → Formed 0 cs xs f → IsEnded xs }
-    ensures unique { (cs : List ℕ) (xs ys : List Lexeme) (f g : Option (ℕ × Miss)) → Formed 0 cs xs f → Formed 0 cs ys g → (xs ≡ ys) × (f ≡ g) }
-{}
-
-/// The lexemes of a text.
+/// The lexemes of a text, ended by `End` at its length; else its first fault, with the place in bytes from 0.
+#[tactic(auto, using(crate::proofs::OnlyReading::only_lexemes, crate::proofs::OnlyReading::only_fault))]
 pub fn tokens(alloc: Global, text: &str) -> Result<Vec<Lexeme>, LexFault>
     requires { length text.now < 2 ^ 32 }
-    ensures { IsLexed (chars_in text.now) result }
+    ensures value { IfOk result (λ v. Lexes 0 (chars_in text.now) v.items None) }
+    ensures fault { IfErr result (λ f. IsLexFault (chars_in text.now) f) }
+    // Where the text can be split, the lexemes are the answer; where it has a fault, that is, unless memory is refused.
+    ensures only_value { (xs : List Lexeme) → Lexes 0 (chars_in text.now) xs None → GivesLexemes result xs }
+    ensures only_fault { (xs : List Lexeme) (at : ℕ) (m : Miss) → Lexes 0 (chars_in text.now) xs (Some (at, m)) → RefusesText result at m }
+    // One of the two always holds, and never both.
+    ensures one_reading { OneReading (chars_in text.now) }
 {
     match lex(alloc, text) {
-        Ok((lexemes, None)) => Ok(lexemes),
-        Ok((_, Some((at, miss)))) => Err(fault_of(at, miss)),
+        Ok(Lexed {
+            lexemes,
+            fault: None,
+        }) => Ok(lexemes),
+        Ok(Lexed {
+            lexemes: _,
+            fault: Some((at, miss)),
+        }) => Err(fault_of(at, miss)),
         Err(_) => Err(LexFault::NoMemory),
     }
 }
 
 fn fault_of(at: u32, miss: Miss) -> LexFault
-    ensures { FailsWith result at miss }
+    ensures { result ≡ lex_fault at miss }
 {
     match miss {
         Miss::BadChar => LexFault::BadChar { at },

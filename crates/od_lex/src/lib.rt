@@ -5,3 +5,8 @@ pub mod constraint;
 mod form;
 pub mod lexer;
 mod scan;
+#[cfg(test)]
+mod tests;
+
+pub use constraint::{constraint_at, depth_at, parse_constraint};
+pub use lexer::{Lexed, lex, tokens};
