@@ -6,3 +6,4 @@ pub mod Fields
 pub mod Grammar
 pub mod FirstFault
 pub mod Machine
+pub mod Walk

@@ -2,6 +2,7 @@
 #![tactic(auto)]
 
 pub mod conllu;
+mod constraint_walks;
 pub mod doc;
 pub mod grammar;
 pub mod history;
