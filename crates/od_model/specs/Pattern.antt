@@ -7,3 +7,4 @@ pub mod Grammar
 pub mod FirstFault
 pub mod Machine
 pub mod Walk
+pub mod Written
