@@ -1,18 +1,22 @@
 -- What the parser answers is the constraint that stands there, or the first fault.
-use Rattle.std.proofs.Common.{◌≡◌, ℕ, ◌+◌, ◌-◌, ◌<◌, ◌≤◌, List, [], ◌∷◌, ◌++◌, length, drop, length-drop, Option, Some, None, Result, Ok, Err, refl, sym, ◌∙◌, ap, arith, IfOk}
+use Rattle.std.proofs.Common.{◌≡◌, ℕ, ◌+◌, ◌-◌, ◌<◌, ◌≤◌, List, [], ◌∷◌, ◌++◌, length, drop, length-drop, Option, Some, None, Result, Ok, Err, refl, sym, ◌∙◌, ap, subst, append-nil, arith, IfOk}
 use Rattle.od_model.specs.declared.pattern.Constraint.{Constraint}
 use Rattle.od_model.specs.declared.pattern_fault.PatternKind.{PatternKind}
+use Rattle.od_model.specs.declared.pattern_fault.PatternKind.TheVariants as kind
 use Rattle.od_model.specs.declared.pattern_fault.PatternFault.{PatternFault}
 use Rattle.od_model.specs.declared.pattern_fault.PatternFault.TheVariants as fault
 use Rattle.od_model.specs.declared.lexeme.Lexeme.{Lexeme}
 use Rattle.od_model.specs.declared.lexeme.LexKind.{LexKind}
 use Rattle.od_model.specs.Pattern.Grammar.{IsConstraint}
 use Rattle.od_model.specs.Pattern.Depth.{depth_behind, depth_after, broken_rule, BreaksRule}
-use Rattle.od_model.specs.Pattern.FirstFault.{IsEnded, IsRead, IsFault, IfBad, OneAnswer, Gives, Refuses}
+use Rattle.od_model.specs.Pattern.FirstFault.{kinds, Keeps, IsEnded, IsRead, IsFault, IfBad, OneAnswer, Gives, Refuses}
 use Rattle.od_model.specs.Pattern.Machine.{◌>>=◌, Outcome, stopped, checked, either_way}
 use Rattle.od_model.specs.Pattern.Machine.{run as run_behind}
 use Rattle.od_model.proofs.Reading.Machine as reading
 use Rattle.od_lex.specs.Machine.{Reading, Leads, State, start, done, step, ended, run, marked, unbroken}
+use Rattle.od_model.specs.Pattern.Written.{written, IsWritable}
+use Rattle.od_model.proofs.Reading.Written.{written_back}
+use Rattle.od_lex.proofs.Complete.{constraint_goes}
 use Rattle.od_lex.proofs.Closing.{reader, rule_at}
 
 -- the same machine, behind the lexemes before
@@ -68,3 +72,30 @@ only_fault q e = reading.only_fault IsConstraint (BreaksRule e) start step (rule
 
 pub one_answer : (e : ℕ) (l : List Lexeme) → IsEnded l → OneAnswer IsConstraint (BreaksRule e) l
 one_answer e = reading.one_answer IsConstraint (BreaksRule e) start step (rule_at e) ended (reader e)
+
+-- lexemes whose kinds are split
+parted : (l : List Lexeme) (a b : List LexKind) → kinds l ≡ a ++ b → (front rest : List Lexeme) × (l ≡ front ++ rest) × (kinds front ≡ a) × (length a ≡ length front)
+parted l [] b e = ([], l, refl, refl, refl)
+parted [] (x ∷ a) b e = absurd (cc)
+parted (y ∷ l) (x ∷ a) b e =
+    let first : y.kind ≡ x = cc in
+    let rest : kinds l ≡ a ++ b = cc in
+    let p = parted l a b rest in
+    (y ∷ p.0, p.1, ap (λ z. y ∷ z) p.2, ap (λ z. z ∷ kinds p.0) first ∙ ap (λ z. x ∷ z) p.3, omega (arith, p.4))
+
+-- a constraint that is written out, and keeps the rules, is read
+pub written_read : (e : ℕ) (c : Constraint) (l : List Lexeme) (behind : List LexKind) → IsWritable c → kinds l ≡ written c ++ behind → Keeps (BreaksRule e) (written c) →
+    IsRead IsConstraint (BreaksRule e) l c (length (written c))
+written_read e c l behind w h keep =
+    let p = parted l (written c) behind h in
+    let is : kinds p.0 ≡ written c = p.3 in
+    let reads : IsConstraint (kinds p.0) c [] = subst (λ (z : List LexKind). IsConstraint z c []) (append-nil (written c) ∙ sym is) (written_back c w []) in
+    record {
+      front = p.0;
+      rest = p.1;
+      parts = p.2;
+      size = p.4;
+      reads = reads;
+      stops = λ x more g. reading.begins_none IsConstraint (BreaksRule e) start step (rule_at e) ended (reader e) (kinds p.0) (done c) x.kind kind.Expected (constraint_goes (kinds p.0) c [] reads) refl;
+      keeps = subst (Keeps (BreaksRule e)) (sym is) keep;
+    }

@@ -1,5 +1,5 @@
 //! A constraint, read from lexemes.
-ghost use Rattle.std.specs.Prelude.{◌≡◌, ℕ, ◌+◌, ◌-◌, ◌^◌, ◌<◌, ◌≤◌, List, [], ◌∷◌, drop, length, Option, Some, None, Ok, take, MatchOption, MatchResult, MatchBool, IfOk, IsTrue, ◌↔◌, suc};
+ghost use Rattle.std.specs.Prelude.{◌≡◌, ℕ, ◌+◌, ◌-◌, ◌^◌, ◌<◌, ◌≤◌, List, [], ◌∷◌, ◌++◌, drop, length, Option, Some, None, Ok, take, MatchOption, MatchResult, MatchBool, IfOk, IsTrue, ◌↔◌, suc};
 ghost use Rattle.od_model.specs.declared.pattern_fault.PatternKind.{PatternKind};
 ghost use Rattle.od_model.specs.declared.pattern_fault.PatternKind.TheVariants as kind;
 ghost use Rattle.od_model.specs.declared.pattern.Value.TheVariants as asked;
@@ -9,8 +9,10 @@ ghost use Rattle.od_model.specs.declared.pattern.Constraint.{Constraint};
 ghost use Rattle.od_model.specs.declared.pattern.Constraint.TheVariants as constraint;
 ghost use Rattle.od_model.specs.Pattern.Fields.{field_named, compared_text, is_text};
 ghost use Rattle.od_model.specs.Pattern.Grammar.{IsConstraint};
+ghost use Rattle.od_model.specs.Pattern.Written.{written, IsWritable};
+ghost use Rattle.od_model.specs.declared.lexeme.LexKind.{LexKind};
 ghost use Rattle.od_model.specs.Pattern.Depth.{depth_behind, depth_before, BreaksRule};
-ghost use Rattle.od_model.specs.Pattern.FirstFault.{IsEnded, IsRead, IsFault, IfBad, OneAnswer, Gives, Refuses};
+ghost use Rattle.od_model.specs.Pattern.FirstFault.{kinds, Keeps, IsEnded, IsRead, IsFault, IfBad, OneAnswer, Gives, Refuses};
 ghost use Rattle.od_lex.specs.Machine.{Open, square, round, start, first, NoAnd, NoOr, NoNot, operand, named, equals, after, both, either, negated, run, Leads, place_of, Makes};
 
 use caseless::default_case_fold_str;
@@ -511,6 +513,9 @@ pub fn parse_constraint(
     // Where a value stands, it is the answer, and where there is a first fault, that is, unless memory is refused.
     ensures only_value { (c : Constraint) (count : ℕ) → IsRead IsConstraint (BreaksRule (depth_before lexemes.now from)) (drop from lexemes.now) c count → Gives result c (from + count) }
     ensures only_fault { (at : ℕ) (k : PatternKind) → IsFault IsConstraint (BreaksRule (depth_before lexemes.now from)) (drop from lexemes.now) at k → Refuses result at k }
+    // A constraint that is written out reads back as itself, where it keeps the limits.
+    ensures reads_back { (c : Constraint) (behind : List LexKind) → IsWritable c → kinds (drop from lexemes.now) ≡ written c ++ behind →
+        Keeps (BreaksRule (depth_before lexemes.now from)) (written c) → Gives result c (from + length (written c)) }
     // One of the two always stands, and never both.
     ensures one_answer { OneAnswer IsConstraint (BreaksRule (depth_before lexemes.now from)) (drop from lexemes.now) }
 {

@@ -1,9 +1,11 @@
 use crate::{lex, parse_constraint, tokens};
-use od_model::lexeme::{LexFault, LexKind, Lexeme};
-use od_model::pattern::{Constraint, Field, Value};
+use od_model::lexeme::{LexFault, LexKind};
+use od_model::pattern::Constraint;
 use od_model::pattern_fault::{PatternFault, PatternKind};
+use od_model::text::Copied;
 use std::alloc::Global;
 use std::test::Fail;
+use std::thread;
 
 /// How many lexemes a short text has.
 fn count(alloc: Global, text: &str) -> Result<usize, LexFault> {
@@ -121,14 +123,104 @@ fn brackets_and_expressions_have_a_limit(rt: HostRuntime) -> Result<(), Fail> {
     Ok(())
 }
 
+/// Whether a constraint, read from a text, and its copy are the same.
+fn is_copied(alloc: Global, text: &str) -> Result<bool, PatternFault> {
+    let (constraint, _) = parsed(alloc, text)?;
+    match constraint.copy(alloc) {
+        Ok(twin) => Ok(constraint.same(&twin)),
+        Err(_) => Err(PatternFault::NoMemory),
+    }
+}
+
+/// A constraint of 16 KiB, thousands deep by this part.
+fn deep(alloc: Global, part: &str, times: usize) -> Result<String, Fail> {
+    repeated(alloc, "[", part, times, "tag=a]")
+}
+
 #[test]
-fn constraints_thousands_deep_are_read_and_dropped(rt: HostRuntime) -> Result<(), Fail> {
+fn constraints_thousands_deep_are_copied_compared_and_dropped(rt: HostRuntime) -> Result<(), Fail> {
     let alloc = rt.alloc();
-    let denied = repeated(alloc, "[", "!", 16_377, "tag=a]")?;
-    assert_eq!(rt; length(alloc, &denied), Ok(16_382));
-    let joined = repeated(alloc, "[", "tag=a&", 2_729, "tag=a]")?;
-    assert_eq!(rt; length(alloc, &joined), Ok(10_921));
-    let either = repeated(alloc, "[", "tag=a|", 2_729, "tag=a]")?;
-    assert_eq!(rt; length(alloc, &either), Ok(10_921));
+    assert_eq!(rt; is_copied(alloc, &deep(alloc, "!", 16_377)?), Ok(true));
+    assert_eq!(rt; is_copied(alloc, &deep(alloc, "tag=a&", 2_729)?), Ok(true));
+    assert_eq!(rt; is_copied(alloc, &deep(alloc, "tag=a|", 2_729)?), Ok(true));
+    assert_eq!(rt; is_copied(alloc, &deep(alloc, "tag=a|!", 2_339)?), Ok(true));
+    Ok(())
+}
+
+#[test]
+fn a_thread_has_the_stack_for_them(rt: HostRuntime) -> Result<(), Fail> {
+    let alloc = rt.alloc();
+    let denied = deep(alloc, "!", 16_377)?;
+    let joined = deep(alloc, "tag=a&", 2_729)?;
+    match thread::spawn(&rt, move || is_copied(alloc, &denied)) {
+        Ok(child) => {
+            assert_eq!(rt; child.join(&rt), Ok(true));
+        }
+        Err(_) => assert!(rt; false),
+    }
+    match thread::spawn(&rt, move || is_copied(alloc, &joined)) {
+        Ok(child) => {
+            assert_eq!(rt; child.join(&rt), Ok(true));
+        }
+        Err(_) => assert!(rt; false),
+    }
+    Ok(())
+}
+
+/// The text that a word, quoted text or regular expression at the front of a text carries.
+fn carried(alloc: Global, text: &str) -> Result<Option<String>, Fail> {
+    if text.len() > 1000 {
+        return Ok(None);
+    }
+    let lexemes = match tokens(alloc, text) {
+        Ok(lexemes) => lexemes,
+        Err(_) => return Ok(None),
+    };
+    match lexemes.first() {
+        Some(lexeme) => match &lexeme.kind {
+            LexKind::Word(text) => Ok(Some(String::from_str(alloc, text.get())?)),
+            LexKind::Quoted(text) => Ok(Some(String::from_str(alloc, text.get())?)),
+            LexKind::Regex(text) => Ok(Some(String::from_str(alloc, text.get())?)),
+            LexKind::NameOpen(text) => Ok(Some(String::from_str(alloc, text.get())?)),
+            _ => Ok(None),
+        },
+        None => Ok(None),
+    }
+}
+
+fn carries(alloc: Global, text: &str, expected: &str) -> Result<bool, Fail> {
+    match carried(alloc, text)? {
+        Some(found) => Ok(found.as_str() == expected),
+        None => Ok(false),
+    }
+}
+
+#[test]
+fn escapes_are_replaced(rt: HostRuntime) -> Result<(), Fail> {
+    let alloc = rt.alloc();
+    assert!(rt; carries(alloc, "'a\\'b'", "a'b")?);
+    assert!(rt; carries(alloc, "\"a\\\\b'\"", "a\\b'")?);
+    assert!(rt; carries(alloc, "/a\\/b\\d/", "a/b\\d")?);
+    assert!(rt; carries(alloc, "é-b:c=", "é-b:c")?);
+    assert!(rt; carries(alloc, "(?<x_1>a)", "x_1")?);
+    Ok(())
+}
+
+#[test]
+fn a_norm_is_folded_and_and_groups_to_the_left(rt: HostRuntime) -> Result<(), Fail> {
+    let alloc = rt.alloc();
+    let same = |left: &str, right: &str| -> Result<bool, PatternFault> {
+        let (left, _) = parsed(alloc, left)?;
+        let (right, _) = parsed(alloc, right)?;
+        Ok(left.same(&right))
+    };
+    assert_eq!(rt; same("[norm=Dogs]", "[norm='dogs']"), Ok(true));
+    assert_eq!(rt; same("[norm=STRASSE]", "[norm=straße]"), Ok(true));
+    assert_eq!(rt; same("[word=Dogs]", "[word=dogs]"), Ok(false));
+    assert_eq!(rt; same("[norm=/D/]", "[norm=/d/]"), Ok(false));
+    assert_eq!(rt; same("[tag=a & tag=b & tag=c]", "[(tag=a & tag=b) & tag=c]"), Ok(true));
+    assert_eq!(rt; same("[tag=a & tag=b & tag=c]", "[tag=a & (tag=b & tag=c)]"), Ok(false));
+    assert_eq!(rt; same("[tag=a | tag=b & tag=c]", "[tag=a | (tag=b & tag=c)]"), Ok(true));
+    assert_eq!(rt; same("[!tag=a & tag=b]", "[(!tag=a) & tag=b]"), Ok(true));
     Ok(())
 }

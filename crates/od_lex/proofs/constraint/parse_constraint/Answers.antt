@@ -1,4 +1,6 @@
-use Rattle.od_lex.proofs.Answers.{parsed_value, parsed_fault, only_value, only_fault, one_answer}
+use Rattle.od_lex.proofs.Answers.{parsed_value, parsed_fault, only_value, only_fault, one_answer, written_read}
+use Rattle.std.proofs.Common.{length}
+use Rattle.od_model.specs.Pattern.Written.{written}
 use Rattle.od_lex.proofs.constraint.parse_constraint.Goals as goal
 
 pub returns-clause-value : goal.returns-clause-value
@@ -15,3 +17,6 @@ returns-clause-only_fault c = only_fault c.constraint_at.result _ c.args.from _ 
 
 pub returns-clause-one_answer : goal.returns-clause-one_answer
 returns-clause-one_answer c = one_answer _ _ c.requires
+
+pub returns-clause-reads_back : goal.returns-clause-reads_back
+returns-clause-reads_back c = λ w behind i e k. returns-clause-only_value c w (length (written w)) (written_read _ w _ behind i e k)
