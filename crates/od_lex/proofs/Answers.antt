@@ -10,7 +10,7 @@ use Rattle.od_model.specs.declared.lexeme.LexKind.{LexKind}
 use Rattle.od_model.specs.Pattern.Grammar.{IsConstraint}
 use Rattle.od_model.specs.Pattern.Depth.{depth_behind, depth_after, broken_rule, BreaksRule}
 use Rattle.od_model.specs.Pattern.FirstFault.{kinds, Keeps, IsEnded, IsRead, IsFault, IfBad, OneAnswer, Gives, Refuses}
-use Rattle.od_model.specs.Pattern.Machine.{◌>>=◌, Outcome, stopped, checked, either_way}
+use Rattle.od_model.specs.Pattern.Machine.{◌>>=◌, stopped, checked, either_way}
 use Rattle.od_model.specs.Pattern.Machine.{run as run_behind}
 use Rattle.od_model.proofs.Reading.Machine as reading
 use Rattle.od_lex.specs.Machine.{Reading, Leads, State, start, done, step, ended, run, marked, unbroken}

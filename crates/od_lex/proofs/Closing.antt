@@ -1,5 +1,5 @@
 -- Each state can still be brought to the end; what does not fit a state begins no word.
-use Rattle.std.proofs.Common.{◌≡◌, ℕ, List, [], ◌∷◌, ◌++◌, Option, Some, None, Result, Ok, Err, refl, sym, ◌∙◌, ap, codes, ◌⊎◌, inl, inr, append_assoc, subst}
+use Rattle.std.proofs.Common.{◌≡◌, ℕ, List, [], ◌∷◌, ◌++◌, Option, Some, None, Result, Ok, Err, refl, sym, ◌∙◌, ap, codes, ◌⊎◌, inl, inr, subst}
 use Rattle.od_model.specs.declared.pattern.Field.{Field}
 use Rattle.od_model.specs.declared.pattern_fault.PatternKind.{PatternKind}
 use Rattle.od_model.specs.declared.pattern_fault.PatternKind.TheVariants as kind

@@ -1,8 +1,8 @@
 -- What is said of the one reading of a text.
-use Rattle.std.proofs.Common.{◌≡◌, ℕ, List, Option, Some, None, refl, sym}
+use Rattle.std.proofs.Common.{◌≡◌, ℕ, List, Option, Some, None}
 use Rattle.od_model.specs.declared.lexeme.Miss.{Miss}
 use Rattle.od_model.specs.declared.lexeme.Lexeme.{Lexeme}
-use Rattle.od_model.specs.Pattern.Lexing.{Lexes, lex_fault, OneReading}
+use Rattle.od_model.specs.Pattern.Lexing.{Lexes, OneReading}
 
 some_miss : ℕ × Miss → Option (ℕ × Miss)
 some_miss x = Some x

@@ -11,7 +11,7 @@ use Rattle.od_model.specs.declared.lexeme.Miss.TheVariants as miss
 use Rattle.od_model.specs.declared.lexeme.LexKind.{LexKind}
 use Rattle.od_model.specs.declared.lexeme.LexKind.TheVariants as lexeme
 use Rattle.od_model.specs.Pattern.Identifier.{begins_identifier, in_identifier, is_identifier}
-use Rattle.od_model.specs.Pattern.Spelling.{begins_word, in_word, is_quote, pair, number, IsNumber, QuotedText, closed, escaped, plain, RegexText, ended, paired, kept, symbol_of, Spells, word, quoted, regex, name_open, exactly, between, at_least, at_most, symbol}
+use Rattle.od_model.specs.Pattern.Spelling.{begins_word, in_word, pair, number, IsNumber, QuotedText, closed, escaped, plain, RegexText, ended, paired, kept, symbol_of, Spells, word, quoted, regex, name_open, exactly, between, at_least, at_most, symbol}
 use Rattle.od_lex.specs.Forms as form
 use Rattle.od_lex.proofs.Spelled.{if_cases, both_true, TakenBy, looking}
 

@@ -1,10 +1,9 @@
 -- What a form takes spells its lexeme, and what it refuses is named by the first character.
-use Rattle.std.proofs.Common.{◌≡◌, ℕ, suc, ◌+◌, Bool, true, false, ◌&&◌, ◌||◌, ◌==◌, cond, if◌then◌else◌, List, [], ◌∷◌, ◌++◌, length, take, drop, Option, Some, None, Result, Ok, Err, refl, sym, ◌∙◌, ap, subst, ◌⊎◌, inl, inr, arith, append_assoc, one-add}
+use Rattle.std.proofs.Common.{◌≡◌, ℕ, ◌+◌, Bool, true, false, ◌&&◌, ◌==◌, cond, if◌then◌else◌, List, [], ◌∷◌, ◌++◌, take, drop, Option, Some, None, Result, Ok, Err, refl, sym, ◌∙◌, ap, subst, append_assoc, one-add}
 use Rattle.std.proofs.lemmas.Bool.{eqb-true}
 use Rattle.std.proofs.lemmas.List.{take-append-drop}
 use Rattle.std.specs.List.{prefix_len, list_all}
 use Rattle.std.specs.Char.{encode_utf8, is_ascii_digit}
-use Rattle.std.specs.Str.{encode_utf8_all}
 use Rattle.od_model.specs.declared.lexeme.Miss.{Miss}
 use Rattle.od_model.specs.declared.lexeme.Miss.TheVariants as miss
 use Rattle.od_model.specs.declared.lexeme.LexKind.{LexKind}

@@ -1,13 +1,12 @@
 -- The forms of lexemes as the lexer tests them, on characters. A form gives what stands there, and the characters behind it.
-use Rattle.std.specs.Prelude.{◌≡◌, ℕ, ◌+◌, ◌-◌, ◌*◌, Bool, true, false, not, ◌&&◌, ◌||◌, ◌==◌, if◌then◌else◌, nat_lt, nat_le, List, [], ◌∷◌, ◌++◌, length, take, drop, Option, Some, None, Result, Ok, Err}
+use Rattle.std.specs.Prelude.{◌≡◌, ℕ, Bool, true, false, ◌&&◌, ◌==◌, if◌then◌else◌, List, [], ◌∷◌, ◌++◌, take, drop, Option, Some, None, Result, Ok, Err}
 use Rattle.std.specs.List.{prefix_len}
-use Rattle.std.specs.Char.{encode_utf8, len_utf8, is_whitespace, is_ascii_alphanumeric, is_ascii_digit}
+use Rattle.std.specs.Char.{encode_utf8, is_ascii_digit}
 use Rattle.std.specs.Str.{encode_utf8_all}
 use Rattle.od_model.specs.declared.lexeme.Miss.{Miss}
 use Rattle.od_model.specs.declared.lexeme.Miss.TheVariants as miss
 use Rattle.od_lex.specs.declared.form.Stop.{Stop}
 use Rattle.od_lex.specs.declared.form.Stop.TheVariants as stop
-use Rattle.od_model.specs.declared.lexeme.Lexeme.{Lexeme}
 use Rattle.od_model.specs.declared.lexeme.LexKind.{LexKind}
 use Rattle.od_model.specs.declared.lexeme.LexKind.TheVariants as lexeme
 use Rattle.od_model.specs.Pattern.Identifier.{in_identifier, is_identifier}

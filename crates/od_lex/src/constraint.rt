@@ -23,6 +23,12 @@ use od_model::text::{Copied, Text};
 use sqlite_items::Boxed;
 use std::alloc::Global;
 
+/// How many brackets may be open at a place.
+const MAX_DEPTH: usize = 100;
+
+/// How many bytes a regular expression may have.
+const MAX_EXPRESSION: usize = 200;
+
 /// The lexeme at a place.
 fn next(lexemes: &[Lexeme], i: usize) -> Option<&Lexeme>
     ensures { MatchOption result (drop i lexemes.now ≡ []) (λ x. (drop i lexemes.now ≡ x.now ∷ drop (i + 1) lexemes.now) × (i < length lexemes.now)) }
@@ -155,7 +161,7 @@ fn value(
             LexKind::Word(text) => plain(alloc, field, text),
             LexKind::Quoted(text) => plain(alloc, field, text),
             LexKind::Regex(text) => {
-                if text.get().len() > 200 {
+                if text.get().len() > MAX_EXPRESSION {
                     return Err(PatternFault::Bad {
                         at: x.at,
                         kind: PatternKind::RegexLong,
@@ -306,7 +312,7 @@ fn bare_operand(
     match next(lexemes, from) {
         Some(x) => match &x.kind {
             LexKind::RoundOpen => {
-                if depth >= 100 {
+                if depth >= MAX_DEPTH {
                     return Err(PatternFault::Bad {
                         at: x.at,
                         kind: PatternKind::TooDeep,
@@ -448,7 +454,7 @@ pub fn constraint_at(
     match next(lexemes, from) {
         Some(x) => match x.kind {
             LexKind::SquareOpen => {
-                if depth >= 100 {
+                if depth >= MAX_DEPTH {
                     return Err(PatternFault::Bad {
                         at: x.at,
                         kind: PatternKind::TooDeep,

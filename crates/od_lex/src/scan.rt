@@ -170,12 +170,12 @@ pub fn regex(alloc: Global, chars: &[char], from: usize) -> Result<Option<(Text,
     ensures value { lex.FoundIn chars.now result (lex.regex false (drop from chars.now)) }
 {
     let mut text = String::new(alloc);
-    let mut escaped = false;
+    let mut paired = false;
     let mut i = from;
     while let Some(c) = at(chars, i) {
         i += 1;
-        if escaped {
-            escaped = false;
+        if paired {
+            paired = false;
             match push_pair(&mut text, c) {
                 Ok(()) => continue,
                 Err(e) => return Err(e),
@@ -185,7 +185,7 @@ pub fn regex(alloc: Global, chars: &[char], from: usize) -> Result<Option<(Text,
             return Ok(Some((Text::from_string(text), i)));
         }
         if c == '\\' {
-            escaped = true;
+            paired = true;
             continue;
         }
         match push(&mut text, c) {

@@ -1,5 +1,5 @@
 -- Steps of a copy of a constraint.
-use Rattle.std.proofs.Common.{◌≡◌, ℕ, ◌+◌, ◌≤◌, List, [], ◌∷◌, ◌++◌, refl, sym, ◌∙◌, ap, arith}
+use Rattle.std.proofs.Common.{◌≡◌, ℕ, ◌+◌, ◌≤◌, List, [], ◌∷◌, ◌++◌, refl, ◌∙◌, ap, arith}
 use Rattle.od_model.specs.declared.pattern.Constraint.{Constraint, end_of-Constraint, more_of-Constraint}
 use Rattle.od_model.specs.declared.pattern.Constraint.TheVariants.{Not, And, Or, Not', And', Or'}
 use Rattle.od_model.specs.declared.constraint_walks.Frame.{Frame}

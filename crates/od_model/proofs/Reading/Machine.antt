@@ -7,7 +7,7 @@ use Rattle.od_model.specs.declared.pattern_fault.PatternFault.TheVariants as fau
 use Rattle.od_model.specs.declared.lexeme.Lexeme.{Lexeme}
 use Rattle.od_model.specs.declared.lexeme.LexKind.{LexKind}
 use Rattle.od_model.specs.declared.lexeme.LexKind.TheVariants.{Word, End}
-use Rattle.od_model.specs.Pattern.FirstFault.{Grammar, Rules, kinds, IsEnded, Begins, IsNoWord, Keeps, IsRead, Wrong, unknown, unexpected, rule as breaks_rule, IsFault, OneAnswer, IfBad, Gives, Refuses}
+use Rattle.od_model.specs.Pattern.FirstFault.{Grammar, Rules, kinds, IsEnded, Begins, IsNoWord, IsRead, Wrong, unknown, unexpected, rule as breaks_rule, IsFault, OneAnswer, IfBad, Gives, Refuses}
 use Rattle.od_model.specs.Pattern.Machine.{◌>>=◌, steps, Outcome, stopped, checked, either_way, run, Refusal, IsReader}
 
 pub bind_assoc : {A B C E : Type 0} → (q : Result A E) (f : A → Result B E) (g : B → Result C E) → (q >>= f) >>= g ≡ q >>= λ x. f x >>= g

@@ -1,5 +1,5 @@
 -- A constraint that is written out is a word of the grammar for itself.
-use Rattle.std.proofs.Common.{◌≡◌, ℕ, List, [], ◌∷◌, ◌++◌, Option, Some, refl, sym, ◌∙◌, ap, subst, append_assoc}
+use Rattle.std.proofs.Common.{◌≡◌, ℕ, List, [], ◌∷◌, ◌++◌, Some, refl, sym, subst, append_assoc}
 use Rattle.od_model.specs.declared.pattern.Field.{Field}
 use Rattle.od_model.specs.declared.pattern.Field.TheVariants as field
 use Rattle.od_model.specs.declared.pattern.Value.{Value}
@@ -9,8 +9,8 @@ use Rattle.od_model.specs.declared.pattern.Constraint.{Constraint, end_of-Constr
 use Rattle.od_model.specs.declared.pattern.Constraint.TheVariants.{Any, Is, Not', And', Or'}
 use Rattle.od_model.specs.declared.pattern.Constraint.TheVariants as constraint
 use Rattle.od_model.specs.declared.lexeme.LexKind.{LexKind}
-use Rattle.od_model.specs.declared.lexeme.LexKind.TheVariants.{Word, Quoted, SquareOpen, SquareClose, RoundOpen, RoundClose, And, Or, Not, Equal}
-use Rattle.od_model.specs.Pattern.Fields.{field_name, field_named, compared_text, IsValue, quoted, regex}
+use Rattle.od_model.specs.declared.lexeme.LexKind.TheVariants.{Quoted, SquareOpen, SquareClose, RoundClose, And, Or, Not}
+use Rattle.od_model.specs.Pattern.Fields.{field_name, field_named, IsValue, quoted, regex}
 use Rattle.od_model.specs.Pattern.Grammar.{Unary, negation, group, test, Ands, one, more, Ors, first, next, IsConstraint, empty, some}
 use Rattle.od_model.specs.Pattern.Written.{value_written, forms, grouped, written, IsCompared, IsOperand, IsWritable}
 

@@ -1,5 +1,5 @@
 -- The fields that a constraint may name, and the values that it may ask for.
-use Rattle.std.specs.Prelude.{◌≡◌, ℕ, List, Option, Some, None, if◌then◌else◌, nat_eq, codes, Bool}
+use Rattle.std.specs.Prelude.{ℕ, List, Option, Some, None, if◌then◌else◌, nat_eq, codes, Bool}
 use Rattle.std.specs.Cmp.Lexicographic.{pointwise}
 use Rattle.std.specs.Str.{chars, encode_utf8_all}
 use Rattle.caseless.specs.Caseless.{default_case_fold}

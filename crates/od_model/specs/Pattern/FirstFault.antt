@@ -1,7 +1,7 @@
 -- The value of a list of lexemes, and its first fault, for any grammar and its rules.
 -- A grammar is a relation `Reads lexemes value rest`: a front of the lexemes is a word for the value, and the rest follows.
 -- Rules are a relation `Breaks front x kind`: behind that front the lexeme x breaks a rule of its own, whatever comes later.
-use Rattle.std.specs.Prelude.{◌≡◌, ℕ, ◌+◌, List, [], ◌∷◌, ◌++◌, length, ◌⊎◌, Result, Ok, Err}
+use Rattle.std.specs.Prelude.{◌≡◌, ℕ, List, [], ◌∷◌, ◌++◌, length, ◌⊎◌, Result, Ok, Err}
 use Rattle.od_model.specs.declared.pattern_fault.PatternKind.{PatternKind}
 use Rattle.od_model.specs.declared.pattern_fault.PatternKind.TheVariants as kind
 use Rattle.od_model.specs.declared.pattern_fault.PatternFault.{PatternFault}

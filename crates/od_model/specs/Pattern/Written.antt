@@ -1,5 +1,5 @@
 -- A constraint written out in lexemes, with as few brackets as the grammar lets it have.
-use Rattle.std.specs.Prelude.{◌≡◌, ℕ, List, [], ◌∷◌, ◌++◌}
+use Rattle.std.specs.Prelude.{◌≡◌, List, [], ◌∷◌, ◌++◌}
 use Rattle.od_model.specs.declared.pattern.Field.{Field}
 use Rattle.od_model.specs.declared.pattern.Value.{Value}
 use Rattle.od_model.specs.declared.pattern.Value.TheVariants.{Plain}

@@ -1,4 +1,4 @@
-use Rattle.std.proofs.Common.{◌≡◌, ◌≤◌, take}
+use Rattle.std.proofs.Common.{◌≡◌, ◌≤◌}
 use Rattle.od_model.specs.Pattern.Depth.{depth_before}
 use Rattle.od_lex.proofs.constraint.depth_at.Given as goal
 

@@ -1,6 +1,4 @@
 use Rattle.std.proofs.Common.{◌∙◌, arith}
-use Rattle.od_model.specs.declared.pattern.Constraint.{Constraint}
-use Rattle.od_model.specs.declared.pattern.Constraint.TheVariants as constraint
 use Rattle.od_lex.specs.Machine.{square}
 use Rattle.od_lex.proofs.Moves.{leads_err, first_in}
 use Rattle.od_lex.proofs.constraint.inside.Goals as goal

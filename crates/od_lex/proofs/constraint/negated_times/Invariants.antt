@@ -1,6 +1,4 @@
 use Rattle.std.proofs.Common.{◌≡◌, ◌-◌}
-use Rattle.od_model.specs.declared.pattern.Constraint.{Constraint}
-use Rattle.od_model.specs.declared.pattern.Constraint.TheVariants as constraint
 use Rattle.od_lex.specs.Machine.{negated}
 use Rattle.od_lex.proofs.constraint.negated_times.Given as goal
 
