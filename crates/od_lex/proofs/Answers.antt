@@ -48,9 +48,11 @@ runs opened before d s (x ∷ l) e = same_step (broken_rule d x.kind) (rule_at o
 pub parsed_value : (q : Result (Constraint × ℕ) PatternFault) (d e from : ℕ) (ls : List Lexeme) → d ≡ e →
     Leads q (run d start (drop from ls)) (λ x. Ok (x.0, drop x.1 ls)) → IfOk q (λ x. (from < x.1) × (x.1 ≤ length ls)) →
     IfOk q (λ x. (from ≤ x.1) × IsRead IsConstraint (BreaksRule e) (drop from ls) x.0 (x.1 - from))
-parsed_value (Ok (c, to)) d e from ls same h b =
-    (omega (arith, b.0), reading.is_read IsConstraint (BreaksRule e) start step (rule_at e) ended (reader e) (drop from ls) c (drop to ls) (to - from)
-    (sym (runs e [] d start (drop from ls) same) ∙ h) (omega (arith, b.0, b.1, length-drop from ls, length-drop to ls)))
+parsed_value (Ok (c, to)) d e from ls same h b = (
+  omega (arith, b.0),
+  reading.is_read IsConstraint (BreaksRule e) start step (rule_at e) ended (reader e) (drop from ls) c (drop to ls) (to - from)
+      (sym (runs e [] d start (drop from ls) same) ∙ h) (omega (arith, b.0, b.1, length-drop from ls, length-drop to ls)),
+)
 parsed_value (Err k) d e from ls same h b = tt
 
 pub parsed_fault : (q : Result (Constraint × ℕ) PatternFault) (d e from : ℕ) (ls : List Lexeme) → d ≡ e → IsEnded (drop from ls) →

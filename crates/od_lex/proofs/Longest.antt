@@ -42,8 +42,8 @@ form_longest c front rest k h more behind j e s =
     let r : Reaches (Ok (k, rest)) j behind = subst (λ (z : Result (LexKind × List ℕ) Miss). Reaches z j behind) (ap formed whole ∙ h) (reaches ((c ∷ front) ++ more) j s behind) in
     let size : length rest ≡ length more + length behind = ap length e ∙ length-append more behind in
     elim r [
-      inl x ↦ let same : length rest ≡ length behind = ap length x.1 in nothing_left more (omega (arith, same, size))
-    | inr x ↦ absurd (omega (arith, x, size))
+      | inl x ↦ let same : length rest ≡ length behind = ap length x.1 in nothing_left more (omega (arith, same, size))
+      | inr x ↦ absurd (omega (arith, x, size))
     ]
 
 form_spells : (c : ℕ) (front rest : List ℕ) (k : LexKind) → form c (front ++ rest) ≡ Ok (k, rest) → Spells (c ∷ front) k

@@ -90,10 +90,12 @@ some_form : (n at c : ℕ) (cs : List ℕ) → length cs ≤ n → is_whitespace
 some_form n at c cs b w more (Err m) h t = ((record { at = at; kind = lexeme.End }) ∷ [], Some (at, m), stuck at c cs m w h)
 some_form n at c cs b w more (Ok x) h t =
     let size : length cs ≡ length t.front + length x.1 = ap length t.parts ∙ length-append t.front x.1 in
-    let r = more (at + len_utf8 c + bytes t.front) x.1 (omega (arith, size, b)) in
-    ((record { at = at; kind = x.0 }) ∷ r.0, r.1,
-    subst (λ (z : List ℕ). Formed at (c ∷ z) ((record { at = at; kind = x.0 }) ∷ r.0) r.1) (sym t.parts)
-    (next at c t.front x.1 x.0 r.0 r.1 w (ap (form c) (sym t.parts) ∙ h) r.2))
+    let r = more (at + len_utf8 c + bytes t.front) x.1 (omega (arith, size, b)) in (
+      (record { at = at; kind = x.0 }) ∷ r.0,
+      r.1,
+      subst (λ (z : List ℕ). Formed at (c ∷ z) ((record { at = at; kind = x.0 }) ∷ r.0) r.1) (sym t.parts)
+          (next at c t.front x.1 x.0 r.0 r.1 w (ap (form c) (sym t.parts) ∙ h) r.2),
+    )
 
 some_white : (n at c : ℕ) (cs : List ℕ) → length cs ≤ n →
     ((at : ℕ) (ds : List ℕ) → length ds ≤ n → (xs : List Lexeme) × (f : Option (ℕ × Miss)) × Formed at ds xs f) →

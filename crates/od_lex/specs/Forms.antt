@@ -35,9 +35,11 @@ regex false (c ∷ cs) =
     if c == 92 then regex true cs else
     before (encode_utf8 c) (regex false cs)
 
+-- a word from its first character on
 abbrev pub text_of : ℕ → List ℕ → LexKind × List ℕ
 text_of c cs = (lexeme.Word (encode_utf8 c ++ encode_utf8_all (take (prefix_len in_word cs) cs)), drop (prefix_len in_word cs) cs)
 
+-- a text that was found, as a lexeme
 abbrev pub or_miss : (List ℕ → LexKind) → Miss → Option (List ℕ × List ℕ) → Result (LexKind × List ℕ) Miss
 or_miss f m None = Err m
 or_miss f m (Some x) = Ok (f x.0, x.1)
@@ -47,6 +49,7 @@ abbrev pub doubled : ℕ → LexKind → LexKind → List ℕ → LexKind × Lis
 doubled c one two [] = (one, [])
 doubled c one two (d ∷ cs) = if d == c then (two, cs) else (one, d ∷ cs)
 
+-- the symbols that are always one character
 abbrev pub symbol : ℕ → Option LexKind
 symbol c =
     if c == 91 then Some lexeme.SquareOpen else
@@ -64,6 +67,7 @@ symbol c =
     if c == 36 then Some lexeme.Dollar else
     None
 
+-- a symbol of one character
 abbrev pub single : Option LexKind → List ℕ → Result (LexKind × List ℕ) Miss
 single None cs = Err miss.BadChar
 single (Some k) cs = Ok (k, cs)
@@ -73,9 +77,11 @@ abbrev pub named_to : List ℕ → List ℕ → Option (LexKind × List ℕ)
 named_to name [] = None
 named_to name (c ∷ cs) = if c == 62 && is_identifier name then Some (lexeme.NameOpen (encode_utf8_all name), cs) else None
 
+-- behind `(?<`, a name and `>`
 abbrev pub named : List ℕ → Option (LexKind × List ℕ)
 named cs = named_to (take (prefix_len in_identifier cs) cs) (drop (prefix_len in_identifier cs) cs)
 
+-- behind `(?<`
 abbrev pub behind : List ℕ → Option (LexKind × List ℕ)
 behind [] = None
 behind (c ∷ cs) =
@@ -83,6 +89,7 @@ behind (c ∷ cs) =
     if c == 33 then Some (lexeme.BehindNot, cs) else
     named (c ∷ cs)
 
+-- behind `(?`
 abbrev pub looking : List ℕ → Option (LexKind × List ℕ)
 looking [] = None
 looking (c ∷ cs) =
@@ -91,6 +98,7 @@ looking (c ∷ cs) =
     if c == 60 then behind cs else
     None
 
+-- `(` alone where nothing longer fits
 abbrev pub or_round : Option (LexKind × List ℕ) → List ℕ → LexKind × List ℕ
 or_round None cs = (lexeme.RoundOpen, cs)
 or_round (Some x) cs = x
@@ -100,10 +108,12 @@ abbrev pub round : List ℕ → LexKind × List ℕ
 round [] = (lexeme.RoundOpen, [])
 round (c ∷ cs) = if c == 63 then or_round (looking cs) (c ∷ cs) else (lexeme.RoundOpen, c ∷ cs)
 
+-- a least and a most number
 abbrev pub to_bound : ℕ → Option ℕ → Option (ℕ × Option ℕ)
 to_bound n None = None
 to_bound n (Some m) = Some (n, Some m)
 
+-- a least number, and a most if there are digits
 abbrev pub from_bound : Option ℕ → List ℕ → Option (ℕ × Option ℕ)
 from_bound None b = None
 from_bound (Some n) [] = Some (n, None)
@@ -114,21 +124,26 @@ abbrev pub bounds : List ℕ → List ℕ → Option (ℕ × Option ℕ)
 bounds [] b = to_bound 0 (number b)
 bounds (d ∷ ds) b = from_bound (number (d ∷ ds)) b
 
+-- a range, if its bounds are numbers
 abbrev pub bounded : List ℕ → Option (ℕ × Option ℕ) → Option (LexKind × List ℕ)
 bounded cs None = None
 bounded cs (Some x) = Some (lexeme.Range x.0 x.1, cs)
 
+-- behind `{`, the digits a, a comma and the digits b
 abbrev pub upper : List ℕ → List ℕ → List ℕ → Option (LexKind × List ℕ)
 upper a b [] = None
 upper a b (c ∷ cs) = if c == 125 then bounded cs (bounds a b) else None
 
+-- behind `{`, the digits a and a comma
 abbrev pub upper_from : List ℕ → List ℕ → Option (LexKind × List ℕ)
 upper_from a cs = upper a (take (prefix_len is_ascii_digit cs) cs) (drop (prefix_len is_ascii_digit cs) cs)
 
+-- one number as both bounds
 abbrev pub exactly : Option ℕ → Option (ℕ × Option ℕ)
 exactly None = None
 exactly (Some n) = Some (n, Some n)
 
+-- behind `{` and the digits a
 abbrev pub lower : List ℕ → List ℕ → Option (LexKind × List ℕ)
 lower a [] = None
 lower a (c ∷ cs) =
@@ -140,6 +155,7 @@ lower a (c ∷ cs) =
 abbrev pub range : List ℕ → Option (LexKind × List ℕ)
 range cs = lower (take (prefix_len is_ascii_digit cs) cs) (drop (prefix_len is_ascii_digit cs) cs)
 
+-- a lexeme that was found
 abbrev pub or_bad : Miss → Option (LexKind × List ℕ) → Result (LexKind × List ℕ) Miss
 or_bad m None = Err m
 or_bad m (Some x) = Ok x
@@ -161,14 +177,17 @@ abbrev pub found : List ℕ → Option (List ℕ × ℕ) → Option (List ℕ ×
 found cs None = None
 found cs (Some x) = Some (x.0, drop x.1 cs)
 
+-- what a function finds, by a place, is what a form finds
 abbrev pub FoundIn : {E : Type 0} → List ℕ → Result (Option (List ℕ × ℕ)) E → Option (List ℕ × List ℕ) → Type 0
 FoundIn cs (Ok o) r = found cs o ≡ r
 FoundIn cs (Err e) r = Unit {0}
 
+-- a lexeme and a place, as a lexeme and what is behind the place
 abbrev pub taken : List ℕ → Option (LexKind × ℕ) → Option (LexKind × List ℕ)
 taken cs None = None
 taken cs (Some x) = Some (x.0, drop x.1 cs)
 
+-- what a function takes, by a place, is what a form takes
 abbrev pub TakenIn : {E : Type 0} → List ℕ → Result (Option (LexKind × ℕ)) E → Option (LexKind × List ℕ) → Type 0
 TakenIn cs (Ok o) r = taken cs o ≡ r
 TakenIn cs (Err e) r = Unit {0}

@@ -62,34 +62,19 @@ fn boxed(alloc: Global, c: Constraint) -> Result<Boxed<Constraint>, PatternFault
 fn negate(alloc: Global, c: Constraint) -> Result<Constraint, PatternFault>
     ensures { Makes result (constraint.Not c) }
 {
-    match boxed(alloc, c) {
-        Ok(b) => Ok(Constraint::Not(b)),
-        Err(e) => Err(e),
-    }
+    Ok(Constraint::Not(boxed(alloc, c)?))
 }
 
 fn join_and(alloc: Global, a: Constraint, b: Constraint) -> Result<Constraint, PatternFault>
     ensures { Makes result (constraint.And a b) }
 {
-    match boxed(alloc, a) {
-        Ok(a) => match boxed(alloc, b) {
-            Ok(b) => Ok(Constraint::And(a, b)),
-            Err(e) => Err(e),
-        },
-        Err(e) => Err(e),
-    }
+    Ok(Constraint::And(boxed(alloc, a)?, boxed(alloc, b)?))
 }
 
 fn join_or(alloc: Global, a: Constraint, b: Constraint) -> Result<Constraint, PatternFault>
     ensures { Makes result (constraint.Or a b) }
 {
-    match boxed(alloc, a) {
-        Ok(a) => match boxed(alloc, b) {
-            Ok(b) => Ok(Constraint::Or(a, b)),
-            Err(e) => Err(e),
-        },
-        Err(e) => Err(e),
-    }
+    Ok(Constraint::Or(boxed(alloc, a)?, boxed(alloc, b)?))
 }
 
 fn is_named(name: &Text, field: &str) -> bool
@@ -202,10 +187,7 @@ fn negated_times(alloc: Global, c: Constraint, count: usize) -> Result<Constrain
 {
     let mut whole = c;
     for _k in 0..count {
-        match negate(alloc, whole) {
-            Ok(c) => whole = c,
-            Err(e) => return Err(e),
-        }
+        whole = negate(alloc, whole)?;
     }
     Ok(whole)
 }
@@ -224,10 +206,10 @@ fn field_test(
 {
     match next(lexemes, from) {
         Some(x) => match x.kind {
-            LexKind::Equal => match value(alloc, lexemes, from + 1, f) {
-                Ok(v) => Ok((Constraint::Is(f, v), from + 2)),
-                Err(e) => Err(e),
-            },
+            LexKind::Equal => {
+                let wanted = value(alloc, lexemes, from + 1, f)?;
+                Ok((Constraint::Is(f, wanted), from + 2))
+            }
             _ => Err(unexpected(lexemes, from)),
         },
         None => Err(unexpected(lexemes, from)),
@@ -288,13 +270,8 @@ fn unary(
     ensures on { IfOk result (λ x. from < x.1) }
 {
     let (count, i) = negations(lexemes, from);
-    match bare_operand(alloc, lexemes, i, depth) {
-        Ok((c, to)) => match negated_times(alloc, c, count) {
-            Ok(c) => Ok((c, to)),
-            Err(e) => Err(e),
-        },
-        Err(e) => Err(e),
-    }
+    let (c, to) = bare_operand(alloc, lexemes, i, depth)?;
+    Ok((negated_times(alloc, c, count)?, to))
 }
 
 /// An operand without its `!`.
@@ -352,19 +329,10 @@ fn all_of(
     ensures on { IfOk result (λ x. from < x.1) }
     ensures stops { IfOk result (λ x. NoAnd (drop x.1 lexemes.now)) }
 {
-    let (mut left, mut i) = match unary(alloc, lexemes, from, depth) {
-        Ok(x) => x,
-        Err(e) => return Err(e),
-    };
+    let (mut left, mut i) = unary(alloc, lexemes, from, depth)?;
     while is_and(lexemes, i) {
-        let (right, to) = match unary(alloc, lexemes, i + 1, depth) {
-            Ok(x) => x,
-            Err(e) => return Err(e),
-        };
-        left = match join_and(alloc, left, right) {
-            Ok(c) => c,
-            Err(e) => return Err(e),
-        };
+        let (right, to) = unary(alloc, lexemes, i + 1, depth)?;
+        left = join_and(alloc, left, right)?;
         i = to;
     }
     Ok((left, i))
@@ -383,19 +351,10 @@ fn alternatives(
     ensures on { IfOk result (λ x. from < x.1) }
     ensures stops { IfOk result (λ x. NoAnd (drop x.1 lexemes.now) × NoOr (drop x.1 lexemes.now)) }
 {
-    let (mut left, mut i) = match all_of(alloc, lexemes, from, depth) {
-        Ok(x) => x,
-        Err(e) => return Err(e),
-    };
+    let (mut left, mut i) = all_of(alloc, lexemes, from, depth)?;
     while is_or(lexemes, i) {
-        let (right, to) = match all_of(alloc, lexemes, i + 1, depth) {
-            Ok(x) => x,
-            Err(e) => return Err(e),
-        };
-        left = match join_or(alloc, left, right) {
-            Ok(c) => c,
-            Err(e) => return Err(e),
-        };
+        let (right, to) = all_of(alloc, lexemes, i + 1, depth)?;
+        left = join_or(alloc, left, right)?;
         i = to;
     }
     Ok((left, i))

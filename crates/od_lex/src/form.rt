@@ -45,7 +45,9 @@ pub fn is_identifier(name: &[char]) -> bool
 {
     match name {
         [] => false,
-        [first, rest @ ..] => { scan::begins_identifier(*first) && rest.len() < 64 && all_in_identifier(rest) }
+        [first, rest @ ..] => {
+            scan::begins_identifier(*first) && rest.len() < 64 && all_in_identifier(rest)
+        }
     }
 }
 
@@ -74,10 +76,8 @@ pub fn named(
             if !is_identifier(name) {
                 return Ok(None);
             }
-            match scan::spelled(alloc, name) {
-                Ok(name) => Ok(Some((LexKind::NameOpen(name), end + 1))),
-                Err(e) => Err(e),
-            }
+            let name = scan::spelled(alloc, name)?;
+            Ok(Some((LexKind::NameOpen(name), end + 1)))
         }
         _ => Ok(None),
     }
@@ -118,10 +118,9 @@ fn round(alloc: Global, chars: &[char], from: usize) -> Result<(LexKind, usize),
     ensures value { IfOk result (λ x. lex.round (drop from chars.now) ≡ (x.0, drop x.1 chars.now)) }
 {
     match scan::at(chars, from) {
-        Some('?') => match looking(alloc, chars, from + 1) {
-            Ok(Some(x)) => Ok(x),
-            Ok(None) => Ok((LexKind::RoundOpen, from)),
-            Err(e) => Err(e),
+        Some('?') => match looking(alloc, chars, from + 1)? {
+            Some(x) => Ok(x),
+            None => Ok((LexKind::RoundOpen, from)),
         },
         _ => Ok((LexKind::RoundOpen, from)),
     }

@@ -57,26 +57,19 @@ fn lex_chars(alloc: Global, chars: &[char]) -> Result<(Vec<Lexeme>, Option<(u32,
         match form(alloc, chars, i + 1, c) {
             Ok((kind, to)) => {
                 let size = size_of(&chars[i + 1..to]);
-                match add(&mut out, at, kind) {
-                    Ok(()) => {}
-                    Err(e) => return Err(e),
-                }
+                add(&mut out, at, kind)?;
                 at += c.len_utf8() + size;
                 i = to;
             }
             Err(Stop::Miss(miss)) => {
-                return match add(&mut out, at, LexKind::End) {
-                    Ok(()) => Ok((out, Some((at as u32, miss)))),
-                    Err(e) => Err(e),
-                };
+                add(&mut out, at, LexKind::End)?;
+                return Ok((out, Some((at as u32, miss))));
             }
             Err(Stop::NoMemory) => return Err(NoMemory),
         }
     }
-    match add(&mut out, at, LexKind::End) {
-        Ok(()) => Ok((out, None)),
-        Err(e) => Err(e),
-    }
+    add(&mut out, at, LexKind::End)?;
+    Ok((out, None))
 }
 
 /// The lexemes of a text up to its first fault.
@@ -98,13 +91,9 @@ pub fn lex(alloc: Global, text: &str) -> Result<Lexed, NoMemory>
     // There is exactly one such reading.
     ensures one_reading { OneReading (chars_in text.now) }
 {
-    match scan::chars_of(alloc, text) {
-        Ok(chars) => match lex_chars(alloc, &chars) {
-            Ok((lexemes, fault)) => Ok(Lexed { lexemes, fault }),
-            Err(e) => Err(e),
-        },
-        Err(e) => Err(e),
-    }
+    let chars = scan::chars_of(alloc, text)?;
+    let (lexemes, fault) = lex_chars(alloc, &chars)?;
+    Ok(Lexed { lexemes, fault })
 }
 
 /// The lexemes of a text, ended by `End` at its length; else its first fault, with the place in bytes from 0.
@@ -120,14 +109,18 @@ pub fn tokens(alloc: Global, text: &str) -> Result<Vec<Lexeme>, LexFault>
     ensures one_reading { OneReading (chars_in text.now) }
 {
     match lex(alloc, text) {
-        Ok(Lexed {
-            lexemes,
-            fault: None,
-        }) => Ok(lexemes),
-        Ok(Lexed {
-            lexemes: _,
-            fault: Some((at, miss)),
-        }) => Err(fault_of(at, miss)),
+        Ok(
+            Lexed {
+                lexemes,
+                fault: None,
+            },
+        ) => Ok(lexemes),
+        Ok(
+            Lexed {
+                lexemes: _,
+                fault: Some((at, miss)),
+            },
+        ) => Err(fault_of(at, miss)),
         Err(_) => Err(LexFault::NoMemory),
     }
 }

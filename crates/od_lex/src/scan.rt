@@ -117,10 +117,7 @@ pub fn spelled(alloc: Global, part: &[char]) -> Result<Text, NoMemory>
 {
     let mut text = String::new(alloc);
     for c in part {
-        match push(&mut text, *c) {
-            Ok(()) => {}
-            Err(e) => return Err(e),
-        }
+        push(&mut text, *c)?;
     }
     Ok(Text::from_string(text))
 }
@@ -143,10 +140,8 @@ pub fn quoted(
         i += 1;
         if escaped {
             escaped = false;
-            match push(&mut text, c) {
-                Ok(()) => continue,
-                Err(e) => return Err(e),
-            }
+            push(&mut text, c)?;
+            continue;
         }
         if c == quote {
             return Ok(Some((Text::from_string(text), i)));
@@ -155,10 +150,7 @@ pub fn quoted(
             escaped = true;
             continue;
         }
-        match push(&mut text, c) {
-            Ok(()) => continue,
-            Err(e) => return Err(e),
-        }
+        push(&mut text, c)?;
     }
     Ok(None)
 }
@@ -176,10 +168,8 @@ pub fn regex(alloc: Global, chars: &[char], from: usize) -> Result<Option<(Text,
         i += 1;
         if paired {
             paired = false;
-            match push_pair(&mut text, c) {
-                Ok(()) => continue,
-                Err(e) => return Err(e),
-            }
+            push_pair(&mut text, c)?;
+            continue;
         }
         if c == '/' {
             return Ok(Some((Text::from_string(text), i)));
@@ -188,10 +178,7 @@ pub fn regex(alloc: Global, chars: &[char], from: usize) -> Result<Option<(Text,
             paired = true;
             continue;
         }
-        match push(&mut text, c) {
-            Ok(()) => continue,
-            Err(e) => return Err(e),
-        }
+        push(&mut text, c)?;
     }
     Ok(None)
 }
@@ -203,10 +190,8 @@ fn push_pair(text: &mut String, c: char) -> Result<(), NoMemory>
     if c == '/' {
         return push(text, c);
     }
-    match push(text, '\\') {
-        Ok(()) => push(text, c),
-        Err(e) => Err(e),
-    }
+    push(text, '\\')?;
+    push(text, c)
 }
 
 /// The digits at a place, and the place behind them.
@@ -251,15 +236,9 @@ pub fn word_text(alloc: Global, first: char, part: &[char]) -> Result<Text, NoMe
     ensures { IfOk result (λ t. t ≡ encode_utf8 first ++ encode_utf8_all part.now) }
 {
     let mut text = String::new(alloc);
-    match push(&mut text, first) {
-        Ok(()) => {}
-        Err(e) => return Err(e),
-    }
+    push(&mut text, first)?;
     for c in part {
-        match push(&mut text, *c) {
-            Ok(()) => {}
-            Err(e) => return Err(e),
-        }
+        push(&mut text, *c)?;
     }
     Ok(Text::from_string(text))
 }

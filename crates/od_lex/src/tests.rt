@@ -42,7 +42,13 @@ fn bad(at: u32, kind: PatternKind) -> Result<usize, PatternFault> {
 }
 
 /// A text many times, between two others.
-fn repeated(alloc: Global, front: &str, part: &str, times: usize, back: &str) -> Result<String, Fail> {
+fn repeated(
+    alloc: Global,
+    front: &str,
+    part: &str,
+    times: usize,
+    back: &str,
+) -> Result<String, Fail> {
     let mut text = String::from_str(alloc, front)?;
     for _i in 0..times {
         text.push_str(part)?;
@@ -90,18 +96,33 @@ fn the_longest_symbol_is_taken(rt: HostRuntime) -> Result<(), Fail> {
 #[test]
 fn the_first_fault_of_a_constraint_has_its_place(rt: HostRuntime) -> Result<(), Fail> {
     let alloc = rt.alloc();
-    assert_eq!(rt; length(alloc, "[colour=red]"), bad(1, PatternKind::UnknownField));
-    assert_eq!(rt; length(alloc, "[colour red]"), bad(1, PatternKind::UnknownField));
-    assert_eq!(rt; length(alloc, "[colour]"), bad(1, PatternKind::UnknownField));
+    assert_eq!(rt;
+        length(alloc, "[colour=red]"),
+        bad(1, PatternKind::UnknownField)
+    );
+    assert_eq!(rt;
+        length(alloc, "[colour red]"),
+        bad(1, PatternKind::UnknownField)
+    );
+    assert_eq!(rt;
+        length(alloc, "[colour]"),
+        bad(1, PatternKind::UnknownField)
+    );
     assert_eq!(rt; length(alloc, "[x"), bad(1, PatternKind::UnknownField));
-    assert_eq!(rt; length(alloc, "[Tag=NN]"), bad(1, PatternKind::UnknownField));
+    assert_eq!(rt;
+        length(alloc, "[Tag=NN]"),
+        bad(1, PatternKind::UnknownField)
+    );
     assert_eq!(rt; length(alloc, "[tag NN]"), bad(5, PatternKind::Expected));
     assert_eq!(rt; length(alloc, "[tag=NN"), bad(7, PatternKind::Expected));
     assert_eq!(rt; length(alloc, "[tag=NN %]"), bad(8, PatternKind::Expected));
     assert_eq!(rt; length(alloc, "[!]"), bad(2, PatternKind::Expected));
     assert_eq!(rt; length(alloc, "[(tag=a]"), bad(7, PatternKind::Expected));
     assert_eq!(rt; length(alloc, "[é=a]"), bad(1, PatternKind::UnknownField));
-    assert_eq!(rt; length(alloc, "[norm='é' x]"), bad(11, PatternKind::Expected));
+    assert_eq!(rt;
+        length(alloc, "[norm='é' x]"),
+        bad(11, PatternKind::Expected)
+    );
     assert_eq!(rt; length(alloc, "[]"), Ok(2));
     assert_eq!(rt; length(alloc, "[tag=NN & !(word=a | lemma=/b/)] x"), Ok(16));
     Ok(())
@@ -218,9 +239,18 @@ fn a_norm_is_folded_and_and_groups_to_the_left(rt: HostRuntime) -> Result<(), Fa
     assert_eq!(rt; same("[norm=STRASSE]", "[norm=straße]"), Ok(true));
     assert_eq!(rt; same("[word=Dogs]", "[word=dogs]"), Ok(false));
     assert_eq!(rt; same("[norm=/D/]", "[norm=/d/]"), Ok(false));
-    assert_eq!(rt; same("[tag=a & tag=b & tag=c]", "[(tag=a & tag=b) & tag=c]"), Ok(true));
-    assert_eq!(rt; same("[tag=a & tag=b & tag=c]", "[tag=a & (tag=b & tag=c)]"), Ok(false));
-    assert_eq!(rt; same("[tag=a | tag=b & tag=c]", "[tag=a | (tag=b & tag=c)]"), Ok(true));
+    assert_eq!(rt;
+        same("[tag=a & tag=b & tag=c]", "[(tag=a & tag=b) & tag=c]"),
+        Ok(true)
+    );
+    assert_eq!(rt;
+        same("[tag=a & tag=b & tag=c]", "[tag=a & (tag=b & tag=c)]"),
+        Ok(false)
+    );
+    assert_eq!(rt;
+        same("[tag=a | tag=b & tag=c]", "[tag=a | (tag=b & tag=c)]"),
+        Ok(true)
+    );
     assert_eq!(rt; same("[!tag=a & tag=b]", "[(!tag=a) & tag=b]"), Ok(true));
     Ok(())
 }

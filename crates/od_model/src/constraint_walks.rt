@@ -3,11 +3,10 @@ ghost use Rattle.std.specs.Prelude.{◌≡◌, ◌↔◌, ◌+◌, ◌<◌, ◌+
 ghost use Rattle.od_model.specs.Pattern.Walk.{plugged, around, cost, total, weight};
 ghost use Rattle.od_model.specs.declared.pattern.Constraint.TheVariants as constraint;
 
-use sqlite_items::Boxed;
-use std::alloc::Global;
-
 use crate::pattern::{Constraint, Field, Value};
 use crate::text::{Copied, NoMemory};
+use sqlite_items::Boxed;
+use std::alloc::Global;
 
 impl Value {
     /// Whether two values are both plain or both regular expressions, of the same text.

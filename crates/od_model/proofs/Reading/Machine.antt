@@ -80,7 +80,6 @@ module _ {C : Type 0} where
   pub same_kind : (a b : ℕ) (j k : PatternKind) → bad a j ≡ bad b k → j ≡ k
   same_kind a b j k h = ap (λ (z : Outcome C). (fault_or (a, j) z).1) h
 
-
 module _ {S C : Type 0} (Reads : Grammar C) (Breaks : Rules) (start : S) (step : S → LexKind → Result S PatternKind) (rule : List LexKind → LexKind → Option PatternKind) (ended : S → Option C)
     (reader : IsReader Reads Breaks start step rule ended) where
   -- a front that begins a word is taken
@@ -138,7 +137,6 @@ module _ {S C : Type 0} (Reads : Grammar C) (Breaks : Rules) (start : S) (step :
     pub taken : Taken before l rest
     pub value : ended taken.last ≡ Some c
     pub stops : (x : Lexeme) (more : List Lexeme) → rest ≡ x ∷ more → (k : PatternKind) × (step taken.last x.kind ≡ Err k)
-
 
   abbrev go : List LexKind → S → List Lexeme → Outcome C
   go = run step rule ended

@@ -10,9 +10,11 @@ use Rattle.od_model.specs.declared.lexeme.Lexeme.{Lexeme}
 use Rattle.od_model.specs.declared.lexeme.LexKind.{LexKind}
 use Rattle.od_model.specs.declared.lexeme.LexKind.TheVariants.{Word, End}
 
+-- words, values, and what follows
 abbrev pub Grammar : Type 0 → Type 1
 Grammar C = List LexKind → C → List LexKind → Type 0
 
+-- rules of single lexemes, whatever the grammar says
 abbrev pub Rules : Type 1
 Rules = List LexKind → LexKind → PatternKind → Type 0
 

@@ -8,6 +8,7 @@ use Rattle.od_model.specs.declared.lexeme.LexKind.TheVariants.{Word, End}
 use Rattle.od_model.specs.Pattern.FirstFault.{Grammar, Rules, Begins}
 
 infixl 10 ◌>>=◌
+-- on with a value; a fault stays
 abbrev pub ◌>>=◌ : {A B E : Type 0} → Result A E → (A → Result B E) → Result B E
 (Ok x) >>= f = f x
 (Err e) >>= f = Err e
@@ -31,6 +32,7 @@ abbrev pub checked : {C : Type 0} → Option PatternKind → ℕ → Outcome C �
 checked None at o = o
 checked (Some k) at o = Err (at, k)
 
+-- on with the next state, or what is said where there is none
 abbrev pub either_way : {S C : Type 0} → Result S PatternKind → (S → Outcome C) → (PatternKind → Outcome C) → Outcome C
 either_way (Ok t) on off = on t
 either_way (Err k) on off = off k

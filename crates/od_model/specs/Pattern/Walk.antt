@@ -35,6 +35,7 @@ cost (frame.OrRight right) = 1 + weight right.now
 cost (frame.AndLeft left) = 1
 cost (frame.OrLeft left) = 1
 
+-- the work that is left
 abbrev pub total : List Frame → ℕ
 total [] = 0
 total (f ∷ frames) = cost f + total frames

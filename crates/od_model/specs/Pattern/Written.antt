@@ -22,18 +22,23 @@ pub record Forms : Type 0 where
   pub as_and : List LexKind
   pub as_unary : List LexKind
 
+-- in brackets
 abbrev pub grouped : List LexKind → List LexKind
 grouped l = RoundOpen ∷ (l ++ RoundClose ∷ [])
 
+-- an operand stands anywhere
 abbrev pub unary_form : List LexKind → Forms
 unary_form l = record { as_or = l; as_and = l; as_unary = l }
 
+-- an `and` stands in brackets as an operand
 abbrev pub and_form : List LexKind → Forms
 and_form l = record { as_or = l; as_and = l; as_unary = grouped l }
 
+-- an `or` stands in brackets as a part of an `and`, and as an operand
 abbrev pub or_form : List LexKind → Forms
 or_form l = record { as_or = l; as_and = grouped l; as_unary = grouped l }
 
+-- each operand with the brackets that it needs
 abbrev pub forms : Constraint → Forms
 forms Any = unary_form []
 forms (Is f v) = unary_form (Word (field_name f) ∷ Equal ∷ value_written v ∷ [])
