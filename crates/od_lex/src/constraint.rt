@@ -400,8 +400,8 @@ fn square_close(lexemes: &[Lexeme], from: usize) -> Result<usize, PatternFault>
     }
 }
 
-/// A constraint where so many brackets are open.
-pub fn constraint_at(
+/// A constraint, read from its `[` on.
+fn bracketed(
     alloc: Global,
     lexemes: &[Lexeme],
     from: usize,
@@ -425,6 +425,24 @@ pub fn constraint_at(
         },
         None => Err(unexpected(lexemes, from)),
     }
+}
+
+/// The constraint at a place where so many brackets are open before it, and the place behind it.
+///
+/// For parsers that count the open brackets themselves; `parse_constraint` counts them.
+pub fn constraint_at(
+    alloc: Global,
+    lexemes: &[Lexeme],
+    from: usize,
+    depth: usize,
+) -> Result<(Constraint, usize), PatternFault>
+    ensures value { IfOk result (λ x. (from ≤ x.1) × IsRead IsConstraint (BreaksRule depth) (drop from lexemes.now) x.0 (x.1 - from)) }
+    ensures fault { IsEnded (drop from lexemes.now) → IfBad result (IsFault IsConstraint (BreaksRule depth) (drop from lexemes.now)) }
+    // What a machine that contains the machine of constraints needs to know.
+    ensures goes { Leads result (run depth start (drop from lexemes.now)) (λ x. Ok (x.0, drop x.1 lexemes.now)) }
+    ensures on { IfOk result (λ x. (from < x.1) × (x.1 ≤ length lexemes.now)) }
+{
+    bracketed(alloc, lexemes, from, depth)
 }
 
 /// How many brackets are open behind one more lexeme.

@@ -1,5 +1,5 @@
 use crate::{lex, parse_constraint, tokens};
-use od_model::lexeme::{LexFault, LexKind};
+use od_model::lexeme::{LexFault, LexKind, Miss};
 use od_model::pattern::Constraint;
 use od_model::pattern_fault::{PatternFault, PatternKind};
 use od_model::text::Copied;
@@ -125,6 +125,10 @@ fn the_first_fault_of_a_constraint_has_its_place(rt: HostRuntime) -> Result<(), 
     );
     assert_eq!(rt; length(alloc, "[]"), Ok(2));
     assert_eq!(rt; length(alloc, "[tag=NN & !(word=a | lemma=/b/)] x"), Ok(16));
+    assert_eq!(rt;
+        length(alloc, "[colour=red] %"),
+        bad(1, PatternKind::UnknownField)
+    );
     Ok(())
 }
 
@@ -252,5 +256,21 @@ fn a_norm_is_folded_and_and_groups_to_the_left(rt: HostRuntime) -> Result<(), Fa
         Ok(true)
     );
     assert_eq!(rt; same("[!tag=a & tag=b]", "[(!tag=a) & tag=b]"), Ok(true));
+    Ok(())
+}
+
+#[test]
+fn the_lexemes_before_a_fault_end_at_its_place(rt: HostRuntime) -> Result<(), Fail> {
+    let alloc = rt.alloc();
+    let read = match lex(alloc, "é &  %") {
+        Ok(read) => read,
+        Err(_) => return Err(Fail::from("memory")),
+    };
+    assert_eq!(rt; read.fault, Some((6, Miss::BadChar)));
+    assert_eq!(rt; read.lexemes.len(), 3);
+    match read.lexemes.last() {
+        Some(lexeme) => assert_eq!(rt; lexeme.at, 6),
+        None => assert!(rt; false),
+    }
     Ok(())
 }

@@ -1,6 +1,9 @@
-use Rattle.od_lex.proofs.Moves.{leads_on, square_in}
+use Rattle.std.proofs.Common.{refl}
+use Rattle.od_lex.proofs.Answers.{parsed_value, parsed_fault}
 use Rattle.od_lex.proofs.constraint.constraint_at.Goals as goal
 
-pub returns-else-depth-ge-MAX_DEPTH-clause-goes : goal.returns-else-depth-ge-MAX_DEPTH-clause-goes
-returns-else-depth-ge-MAX_DEPTH-clause-goes c = leads_on c.inside.result _ _ _
-    (square_in c.args.depth _ _ c.in-Some.x.now c.in-Some.ensures.0 c.in-SquareOpen.is c.if-depth-ge-MAX_DEPTH.false) c.inside.ensures.goes
+pub returns-clause-value : goal.returns-clause-value
+returns-clause-value c = parsed_value c.bracketed.result _ _ c.args.from c.args.lexemes.now refl c.bracketed.ensures.goes c.bracketed.ensures.on
+
+pub returns-clause-fault : goal.returns-clause-fault
+returns-clause-fault c = λ w. parsed_fault c.bracketed.result _ _ c.args.from c.args.lexemes.now refl w c.bracketed.ensures.goes
