@@ -42,10 +42,6 @@ square_in d l m x e h b =
 pub round_out : (d : ℕ) (s : State) (l : List Lexeme) → run (d + 1 - 1) s l ≡ run d s l
 round_out d s l = ap (λ z. run z s l) (omega arith)
 
-pub leads_err : {X Y : Type 0} → (e : PatternFault) (r s : Reading) (f : X → Reading) (g : Y → Reading) → r ≡ s → Leads (Err e) s g → Leads (Err e) r f
-leads_err fault.NoMemory r s f g h k = tt
-leads_err (fault.Bad at kind) r s f g h k = h ∙ k
-
 not_close : (y : LexKind) → (y ≡ SquareClose → ⊥) → step_first y ≡ step_operand y 0 None None square
 not_close SquareClose h = absurd (h refl)
 not_close y h = refl
@@ -88,3 +84,8 @@ ended_some (x ∷ l) h = omega arith
 
 pub inside_list : (i : ℕ) (xs : List Lexeme) → IsEnded (drop i xs) → i < length xs
 inside_list i xs h = omega (arith, ended_some (drop i xs) h, length-drop i xs)
+
+pub leads_through : {X : Type 0} → (q : Result X PatternFault) (r s : Reading) (f g : X → Reading) → r ≡ s → ((x : X) → g x ≡ f x) → Leads q s g → Leads q r f
+leads_through (Ok x) r s f g h e k = h ∙ k ∙ e x
+leads_through (Err fault.NoMemory) r s f g h e k = tt
+leads_through (Err (fault.Bad at kind)) r s f g h e k = h ∙ k

@@ -295,13 +295,7 @@ fn bare_operand(
                         kind: PatternKind::TooDeep,
                     });
                 }
-                match alternatives(alloc, lexemes, from + 1, depth + 1) {
-                    Ok((c, to)) => match round_close(lexemes, to) {
-                        Ok(to) => Ok((c, to)),
-                        Err(e) => Err(e),
-                    },
-                    Err(e) => Err(e),
-                }
+                grouped(alloc, lexemes, from + 1, depth + 1)
             }
             LexKind::Word(name) => match field_of(name) {
                 Some(f) => field_test(alloc, lexemes, from + 1, f),
@@ -314,6 +308,23 @@ fn bare_operand(
         },
         None => Err(unexpected(lexemes, from)),
     }
+}
+
+/// What stands in round brackets, from behind the opening one on.
+#[cycle(constraint)]
+fn grouped(
+    alloc: Global,
+    lexemes: &[Lexeme],
+    from: usize,
+    depth: usize,
+) -> Result<(Constraint, usize), PatternFault>
+    ensures goes { (n : ℕ) (a o : Option Constraint) (k : Open) → Leads result (run depth (operand 0 None None (round n a o k)) (drop from lexemes.now))
+        (λ x. run (depth - 1) (after (both a (negated n x.0)) o k) (drop x.1 lexemes.now)) }
+    ensures on { IfOk result (λ x. from < x.1) }
+{
+    let (c, end) = alternatives(alloc, lexemes, from, depth)?;
+    let to = round_close(lexemes, end)?;
+    Ok((c, to))
 }
 
 /// Operands joined by `&`.
@@ -360,6 +371,21 @@ fn alternatives(
     Ok((left, i))
 }
 
+/// A constraint behind its `[`, where it is not empty.
+fn filled(
+    alloc: Global,
+    lexemes: &[Lexeme],
+    from: usize,
+    depth: usize,
+) -> Result<(Constraint, usize), PatternFault>
+    ensures goes { Leads result (run depth (operand 0 None None square) (drop from lexemes.now)) (λ x. Ok (x.0, drop x.1 lexemes.now)) }
+    ensures on { IfOk result (λ x. (from < x.1) × (x.1 ≤ length lexemes.now)) }
+{
+    let (c, end) = alternatives(alloc, lexemes, from, depth)?;
+    let to = square_close(lexemes, end)?;
+    Ok((c, to))
+}
+
 /// A constraint behind its `[`.
 fn inside(
     alloc: Global,
@@ -373,13 +399,7 @@ fn inside(
     match next(lexemes, from) {
         Some(x) => match x.kind {
             LexKind::SquareClose => Ok((Constraint::Any, from + 1)),
-            _ => match alternatives(alloc, lexemes, from, depth) {
-                Ok((c, to)) => match square_close(lexemes, to) {
-                    Ok(to) => Ok((c, to)),
-                    Err(e) => Err(e),
-                },
-                Err(e) => Err(e),
-            },
+            _ => filled(alloc, lexemes, from, depth),
         },
         None => Err(unexpected(lexemes, from)),
     }

@@ -4,16 +4,19 @@ use Rattle.od_lex.specs.Machine.{Open, operand, after, run, NoAnd}
 use Rattle.od_lex.proofs.constraint.+constraint.Given as goal
 
 abbrev pub decreases-bare_operand : goal.decreases-bare_operand
-decreases-bare_operand l = (101 - l.depth) * 4
+decreases-bare_operand l = (101 - l.depth) * 5
 
 abbrev pub decreases-unary : goal.decreases-unary
-decreases-unary l = (101 - l.depth) * 4 + 1
+decreases-unary l = (101 - l.depth) * 5 + 1
 
 abbrev pub decreases-all_of : goal.decreases-all_of
-decreases-all_of l = (101 - l.depth) * 4 + 2
+decreases-all_of l = (101 - l.depth) * 5 + 2
 
 abbrev pub decreases-alternatives : goal.decreases-alternatives
-decreases-alternatives l = (101 - l.depth) * 4 + 3
+decreases-alternatives l = (101 - l.depth) * 5 + 3
+
+abbrev pub decreases-grouped : goal.decreases-grouped
+decreases-grouped l = (101 - l.depth) * 5 + 4
 
 abbrev pub invariant-all_of-loop-alloc : goal.invariant-all_of-loop-alloc
 invariant-all_of-loop-alloc l = record {
