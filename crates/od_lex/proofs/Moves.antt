@@ -1,15 +1,14 @@
 -- Steps that the parser takes.
-use Rattle.std.proofs.Common.{◌≡◌, ℕ, zero, suc, ◌+◌, ◌-◌, ◌<◌, ◌≤◌, List, [], ◌∷◌, length, take, drop, get_or, add-one, length-drop, Option, Some, None, Result, Ok, Err, refl, sym, ◌∙◌, ap, arith}
+use Rattle.std.proofs.Common.{◌≡◌, ℕ, zero, suc, ◌+◌, ◌-◌, ◌<◌, List, [], ◌∷◌, length, take, get_or, add-one, Option, Some, None, Result, Ok, Err, refl, sym, ◌∙◌, ap, arith}
 use Rattle.std.proofs.Common.{lt-ltb, Bool, if◌then◌else◌}
 use Rattle.od_model.specs.declared.lexeme.Lexeme.{Lexeme}
 use Rattle.od_model.specs.declared.lexeme.LexKind.{LexKind}
-use Rattle.od_model.specs.declared.lexeme.LexKind.TheVariants as lexeme
 use Rattle.od_model.specs.declared.lexeme.LexKind.TheVariants.{RoundOpen, SquareOpen, SquareClose}
 use Rattle.od_model.specs.declared.pattern_fault.PatternKind.TheVariants as kind
 use Rattle.od_model.specs.declared.pattern.Constraint.{Constraint}
 use Rattle.od_model.specs.declared.pattern.Constraint.TheVariants as constraint
 use Rattle.od_model.specs.Pattern.Depth.{depth_behind, broken_rule, too_deep, depth_after, depth_before}
-use Rattle.od_model.specs.Pattern.FirstFault.{IsEnded, kinds}
+use Rattle.od_model.specs.Pattern.FirstFault.{kinds}
 use Rattle.od_model.specs.Pattern.Machine.{◌>>=◌}
 use Rattle.od_model.specs.declared.pattern_fault.PatternFault.{PatternFault}
 use Rattle.od_model.specs.declared.pattern_fault.PatternFault.TheVariants as fault
@@ -65,25 +64,6 @@ depth_next d (suc i) (y ∷ xs) x h e = depth_next (depth_behind d y.kind) i xs 
 
 pub depth_more : (i : ℕ) (xs : List Lexeme) (x : Lexeme) → i < length xs → x ≡ get_or xs i x → depth_before xs (i + 1) ≡ depth_behind (depth_before xs i) x.kind
 depth_more i xs x h e = rw add-one (depth_next 0 i xs x h e)
-
-depth_by : (d : ℕ) (y : LexKind) → depth_behind d y ≤ suc d
-depth_by d lexeme.SquareOpen = omega arith
-depth_by d lexeme.RoundOpen = omega arith
-depth_by d (lexeme.NameOpen n) = omega arith
-depth_by d lexeme.AheadIs = omega arith
-depth_by d lexeme.AheadNot = omega arith
-depth_by d lexeme.BehindIs = omega arith
-depth_by d lexeme.BehindNot = omega arith
-depth_by d lexeme.SquareClose = omega arith
-depth_by d lexeme.RoundClose = omega arith
-depth_by d y = omega arith
-
-pub ended_some : (l : List Lexeme) → IsEnded l → 0 < length l
-ended_some [] h = absurd h
-ended_some (x ∷ l) h = omega arith
-
-pub inside_list : (i : ℕ) (xs : List Lexeme) → IsEnded (drop i xs) → i < length xs
-inside_list i xs h = omega (arith, ended_some (drop i xs) h, length-drop i xs)
 
 pub leads_through : {X : Type 0} → (q : Result X PatternFault) (r s : Reading) (f g : X → Reading) → r ≡ s → ((x : X) → g x ≡ f x) → Leads q s g → Leads q r f
 leads_through (Ok x) r s f g h e k = h ∙ k ∙ e x

@@ -18,10 +18,6 @@ pub bind_same : {A B E : Type 0} → (q : Result A E) (f g : A → Result B E) �
 bind_same (Ok x) f g h = h x
 bind_same (Err e) f g h = refl
 
-kinds_append : (a b : List Lexeme) → kinds (a ++ b) ≡ kinds a ++ kinds b
-kinds_append [] b = refl
-kinds_append (x ∷ a) b = ap (λ z. x.kind ∷ z) (kinds_append a b)
-
 -- the tail of a list behind its first
 snoc_cons : (before : List LexKind) (x : LexKind) (more : List LexKind) → (before ++ x ∷ []) ++ more ≡ before ++ x ∷ more
 snoc_cons before x more = append_assoc before (x ∷ []) more

@@ -40,12 +40,7 @@ joined_ands l m a b rest u v = subst (λ (z : List LexKind). Ands z (constraint.
 joined_ors : (l m : List LexKind) (a b : Constraint) (rest : List LexKind) → Ors (l ++ Or ∷ (m ++ rest)) a (Or ∷ (m ++ rest)) → Ands (m ++ rest) b rest → Ors ((l ++ Or ∷ m) ++ rest) (constraint.Or a b) rest
 joined_ors l m a b rest u v = subst (λ (z : List LexKind). Ors z (constraint.Or a b) rest) (sym (append_assoc l (Or ∷ m) rest)) (next (l ++ Or ∷ (m ++ rest)) a (m ++ rest) b rest u v)
 
--- the three places
-pub record ReadsBack (c : Constraint) : Type 0 where
-  pub unary : (rest : List LexKind) → Unary ((forms c).as_unary ++ rest) c rest
-  pub ands : (rest : List LexKind) → Ands ((forms c).as_and ++ rest) c rest
-  pub ors : (rest : List LexKind) → Ors ((forms c).as_or ++ rest) c rest
-
+-- what is written reads back, whatever follows, in each of the three places
 abbrev UnaryBack : List LexKind → Constraint → Type 0
 UnaryBack l c = (rest : List LexKind) → Unary (l ++ rest) c rest
 
