@@ -4,4 +4,6 @@ pub mod Histories
 pub mod Lists
 pub mod Matching
 pub mod Objects
+pub mod Reading
 pub mod Rounds
+pub mod Walks

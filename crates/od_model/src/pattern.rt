@@ -25,13 +25,34 @@ pub enum Value {
 }
 
 /// A test of one token.
-#[derive(Debug, Drop)]
+#[derive(Debug)]
 pub enum Constraint {
     Any,
     Is(Field, Value),
     Not(Boxed<Constraint>),
     And(Boxed<Constraint>, Boxed<Constraint>),
     Or(Boxed<Constraint>, Boxed<Constraint>),
+}
+
+impl Drop for Constraint {
+    // Negations and left operands may be thousands deep, so that only right operands take a call.
+    fn drop(mut self) {
+        loop {
+            match self {
+                Constraint::Any => return,
+                Constraint::Is(_, _) => return,
+                Constraint::Not(inner) => self = inner.into_inner(),
+                Constraint::And(left, right) => {
+                    let _right = right.into_inner();
+                    self = left.into_inner();
+                }
+                Constraint::Or(left, right) => {
+                    let _right = right.into_inner();
+                    self = left.into_inner();
+                }
+            }
+        }
+    }
 }
 
 /// How often a part may be repeated, and whether fewer turns are preferred.

@@ -1,0 +1,12 @@
+pub mod Texts
+pub mod Sizes
+pub mod Moves
+pub mod Spelled
+pub mod Reaches
+pub mod Longest
+pub mod Readings
+pub mod OnlyReading
+pub mod Complete
+pub mod Sound
+pub mod Closing
+pub mod Answers

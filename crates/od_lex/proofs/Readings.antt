@@ -1,0 +1,119 @@
+-- Each text has one reading, and it ends with `End`.
+use Rattle.std.proofs.Common.{◌≡◌, ℕ, zero, suc, ◌+◌, ◌≤◌, length, length-append, None, Bool, true, false, List, [], ◌∷◌, ◌++◌, Option, Some, Result, Ok, Err, refl, sym, ◌∙◌, ap, subst, arith}
+use Rattle.std.specs.Char.{len_utf8, is_whitespace}
+use Rattle.od_model.specs.declared.lexeme.Lexeme.{Lexeme}
+use Rattle.od_model.specs.declared.lexeme.LexKind.{LexKind}
+use Rattle.od_model.specs.declared.lexeme.LexKind.TheVariants as lexeme
+use Rattle.od_model.specs.declared.lexeme.Miss.{Miss}
+use Rattle.od_model.specs.Pattern.FirstFault.{IsEnded}
+use Rattle.od_lex.specs.Forms.{form}
+use Rattle.od_model.specs.Pattern.Lexing.{size_of as bytes}
+use Rattle.od_model.specs.Pattern.Lexing.{OneReading}
+use Rattle.od_lex.proofs.Spelled.{FormIs, form_is}
+use Rattle.od_lex.proofs.Longest.{longest, by_forms}
+use Rattle.od_lex.specs.Reading.{Formed, end, stuck, white, next}
+
+ended_more : (x : Lexeme) (xs : List Lexeme) → IsEnded xs → IsEnded (x ∷ xs)
+ended_more x [] h = absurd h
+ended_more x (y ∷ xs) h = h
+
+pub ended : (at : ℕ) (cs : List ℕ) (xs : List Lexeme) (f : Option (ℕ × Miss)) → Formed at cs xs f → IsEnded xs
+ended _ _ _ _ (end at) = refl
+ended _ _ _ _ (stuck at c cs m w h) = refl
+ended _ _ _ _ (white at c cs xs f w l) = ended (at + len_utf8 c) cs xs f l
+ended _ _ _ _ (next at c front rest k xs f w h l) = ended_more (record { at = at; kind = k }) xs (ended (at + len_utf8 c + bytes front) rest xs f l)
+
+bytes_append : (a b : List ℕ) → bytes (a ++ b) ≡ bytes a + bytes b
+bytes_append [] b = omega arith
+bytes_append (x ∷ a) b = omega (arith, bytes_append a b)
+
+abbrev pub Form : Type 0
+Form = Result (LexKind × List ℕ) Miss
+
+abbrev kind_in : Form → LexKind
+kind_in (Ok x) = x.0
+kind_in (Err m) = lexeme.End
+
+abbrev rest_in : Form → List ℕ
+rest_in (Ok x) = x.1
+rest_in (Err m) = []
+
+abbrev miss_in : Miss → Form → Miss
+miss_in d (Ok x) = d
+miss_in d (Err m) = m
+
+head_in : (c d : ℕ) (cs ds : List ℕ) → c ∷ cs ≡ d ∷ ds → c ≡ d
+head_in c d cs ds e = cc
+
+tail_in : (c d : ℕ) (cs ds : List ℕ) → c ∷ cs ≡ d ∷ ds → cs ≡ ds
+tail_in c d cs ds e = cc
+
+forms : (c d : ℕ) (cs ds : List ℕ) (p q : Form) → c ∷ cs ≡ d ∷ ds → form c cs ≡ p → form d ds ≡ q → p ≡ q
+forms c d cs ds p q e g h = sym g ∙ ap (λ z. form z cs) (head_in c d cs ds e) ∙ ap (form d) (tail_in c d cs ds e) ∙ h
+
+colour : (c d : ℕ) (cs ds : List ℕ) (a b : Bool) → c ∷ cs ≡ d ∷ ds → is_whitespace c ≡ a → is_whitespace d ≡ b → a ≡ b
+colour c d cs ds a b e g h = sym g ∙ ap is_whitespace (head_in c d cs ds e) ∙ h
+
+pub unique : (at : ℕ) (cs : List ℕ) (xs : List Lexeme) (f : Option (ℕ × Miss)) → Formed at cs xs f → (ds : List ℕ) (ys : List Lexeme) (g : Option (ℕ × Miss)) → cs ≡ ds → Formed at ds ys g → (xs ≡ ys) × (f ≡ g)
+unique _ _ _ _ (end at) _ _ _ e (end _) = (refl, refl)
+unique _ _ _ _ (end at) _ _ _ e (stuck _ d ds n v i) = absurd (cc)
+unique _ _ _ _ (end at) _ _ _ e (white _ d ds ys g v i) = absurd (cc)
+unique _ _ _ _ (end at) _ _ _ e (next _ d front rest j ys g v i l) = absurd (cc)
+unique _ _ _ _ (stuck at c cs m w h) _ _ _ e (end _) = absurd (cc)
+unique _ _ _ _ (stuck at c cs m w h) _ _ _ e (stuck _ d ds n v i) =
+    (refl, ap (λ z. Some (at, miss_in m z)) (forms c d cs ds (Err m) (Err n) e h i))
+unique _ _ _ _ (stuck at c cs m w h) _ _ _ e (white _ d ds ys g v i) = let b = colour c d cs ds false true e w v in absurd (cc)
+unique _ _ _ _ (stuck at c cs m w h) _ _ _ e (next _ d front rest j ys g v i l) = let b = forms c d cs (front ++ rest) (Err m) (Ok (j, rest)) e h i in absurd (cc)
+unique _ _ _ _ (white at c cs xs f w h) _ _ _ e (end _) = absurd (cc)
+unique _ _ _ _ (white at c cs xs f w h) _ _ _ e (stuck _ d ds n v i) = let b = colour c d cs ds true false e w v in absurd (cc)
+unique _ _ _ _ (white at c cs xs f w h) _ _ _ e (white _ d ds ys g v i) =
+    unique (at + len_utf8 c) cs xs f h ds ys g (tail_in c d cs ds e) (subst (λ (z : ℕ). Formed (at + len_utf8 z) ds ys g) (sym (head_in c d cs ds e)) i)
+unique _ _ _ _ (white at c cs xs f w h) _ _ _ e (next _ d front rest j ys g v i l) = let b = colour c d cs (front ++ rest) true false e w v in absurd (cc)
+unique _ _ _ _ (next at c front rest k xs f w h l) _ _ _ e (end _) = absurd (cc)
+unique _ _ _ _ (next at c front rest k xs f w h l) _ _ _ e (stuck _ d ds n v i) = let b = forms c d (front ++ rest) ds (Ok (k, rest)) (Err n) e h i in absurd (cc)
+unique _ _ _ _ (next at c front rest k xs f w h l) _ _ _ e (white _ d ds ys g v i) = let b = colour c d (front ++ rest) ds false true e w v in absurd (cc)
+unique _ _ _ _ (next at c front rest k xs f w h l) _ _ _ e (next _ d ahead back j ys g v i r) =
+    let b = forms c d (front ++ rest) (ahead ++ back) (Ok (k, rest)) (Ok (j, back)) e h i in
+    let same : rest ≡ back = ap rest_in b in
+    let like : k ≡ j = ap kind_in b in
+    let head = head_in c d (front ++ rest) (ahead ++ back) e in
+    let whole : bytes front + bytes rest ≡ bytes ahead + bytes back = sym (bytes_append front rest) ∙ ap bytes (tail_in c d (front ++ rest) (ahead ++ back) e) ∙ bytes_append ahead back in
+    let size : bytes rest ≡ bytes back = ap bytes same in
+    let len : len_utf8 c ≡ len_utf8 d = ap len_utf8 head in
+    let place : at + len_utf8 d + bytes ahead ≡ at + len_utf8 c + bytes front = omega (arith, whole, size, len) in
+    let u = unique (at + len_utf8 c + bytes front) rest xs f l back ys g same (subst (λ (z : ℕ). Formed z back ys g) place r) in
+    (ap (λ z. (record { at = at; kind = z }) ∷ xs) like ∙ ap (λ z. (record { at = at; kind = j }) ∷ z) u.0, u.1)
+
+some_form : (n at c : ℕ) (cs : List ℕ) → length cs ≤ n → is_whitespace c ≡ false →
+    ((at : ℕ) (ds : List ℕ) → length ds ≤ n → (xs : List Lexeme) × (f : Option (ℕ × Miss)) × Formed at ds xs f) →
+    (q : Result (LexKind × List ℕ) Miss) → form c cs ≡ q → FormIs c cs q → (xs : List Lexeme) × (f : Option (ℕ × Miss)) × Formed at (c ∷ cs) xs f
+some_form n at c cs b w more (Err m) h t = ((record { at = at; kind = lexeme.End }) ∷ [], Some (at, m), stuck at c cs m w h)
+some_form n at c cs b w more (Ok x) h t =
+    let size : length cs ≡ length t.front + length x.1 = ap length t.parts ∙ length-append t.front x.1 in
+    let r = more (at + len_utf8 c + bytes t.front) x.1 (omega (arith, size, b)) in (
+      (record { at = at; kind = x.0 }) ∷ r.0,
+      r.1,
+      subst (λ (z : List ℕ). Formed at (c ∷ z) ((record { at = at; kind = x.0 }) ∷ r.0) r.1) (sym t.parts)
+          (next at c t.front x.1 x.0 r.0 r.1 w (ap (form c) (sym t.parts) ∙ h) r.2),
+    )
+
+some_white : (n at c : ℕ) (cs : List ℕ) → length cs ≤ n →
+    ((at : ℕ) (ds : List ℕ) → length ds ≤ n → (xs : List Lexeme) × (f : Option (ℕ × Miss)) × Formed at ds xs f) →
+    (b : Bool) → is_whitespace c ≡ b → (xs : List Lexeme) × (f : Option (ℕ × Miss)) × Formed at (c ∷ cs) xs f
+some_white n at c cs s more true w = let r = more (at + len_utf8 c) cs s in (r.0, r.1, white at c cs r.0 r.1 w r.2)
+some_white n at c cs s more false w = some_form n at c cs s w more (form c cs) refl (form_is c cs)
+
+-- a reading of so many characters at most
+some_by : (n at : ℕ) (cs : List ℕ) → length cs ≤ n → (xs : List Lexeme) × (f : Option (ℕ × Miss)) × Formed at cs xs f
+some_by n at [] s = ((record { at = at; kind = lexeme.End }) ∷ [], None, end at)
+some_by zero at (c ∷ cs) s = absurd (omega arith)
+some_by (suc n) at (c ∷ cs) s = some_white n at c cs (omega arith) (some_by n) (is_whitespace c) refl
+
+pub one_reading : (cs : List ℕ) → OneReading cs
+one_reading cs =
+    let r = some_by (length cs) 0 cs (omega arith) in
+    record {
+      some = (r.0, r.1, longest 0 cs r.0 r.1 r.2);
+      unique = λ xs ys f g a b. unique 0 cs xs f (by_forms 0 cs xs f a) cs ys g refl (by_forms 0 cs ys g b);
+      ends = λ xs f a. ended 0 cs xs f (by_forms 0 cs xs f a);
+    }

@@ -1,0 +1,13 @@
+use Rattle.std.proofs.Common.{◌≡◌, ℕ, ◌+◌, ◌-◌, drop, length, Option}
+use Rattle.od_model.specs.declared.pattern.Constraint.{Constraint}
+use Rattle.od_lex.specs.Machine.{Open, operand, run}
+use Rattle.od_lex.proofs.constraint.negations.Given as goal
+
+abbrev pub invariant-loop-x : goal.invariant-loop-x
+invariant-loop-x l = record {
+  counted : l.from + l.count ≡ l.i;
+  goes : (d n : ℕ) (a o : Option Constraint) (k : Open) → run d (operand n a o k) (drop l.from l.lexemes) ≡ run d (operand (n + l.count) a o k) (drop l.i l.lexemes);
+}
+
+abbrev pub decreases-loop-x : goal.decreases-loop-x
+decreases-loop-x l = length l.lexemes - l.i

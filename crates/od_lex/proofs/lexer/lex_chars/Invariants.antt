@@ -1,0 +1,16 @@
+use Rattle.std.proofs.Common.{◌≡◌, ℕ, ◌+◌, ◌-◌, ◌≤◌, List, ◌++◌, drop, length, Option}
+use Rattle.od_model.specs.declared.lexeme.Lexeme.{Lexeme}
+use Rattle.od_model.specs.declared.lexeme.Miss.{Miss}
+use Rattle.od_model.specs.Pattern.Lexing.{size_of as bytes}
+use Rattle.od_lex.specs.Reading.{Formed}
+use Rattle.od_lex.proofs.lexer.lex_chars.Given as goal
+
+abbrev pub invariant-loop-at : goal.invariant-loop-at
+invariant-loop-at l = record {
+  within : l.i ≤ length l.chars;
+  sized : l.at + bytes (drop l.i l.chars) ≡ bytes l.chars;
+  goes : (xs : List Lexeme) (f : Option (ℕ × Miss)) → Formed l.at (drop l.i l.chars) xs f → Formed 0 l.chars (l.out.items ++ xs) f;
+}
+
+abbrev pub decreases-loop-at : goal.decreases-loop-at
+decreases-loop-at l = length l.chars - l.i

@@ -1,0 +1,12 @@
+//! The lexemes of the pattern language, and the constraints that are written with them.
+#![tactic(auto)]
+
+pub mod constraint;
+mod form;
+pub mod lexer;
+mod scan;
+#[cfg(test)]
+mod tests;
+
+pub use constraint::{constraint_at, depth_at, parse_constraint};
+pub use lexer::{Lexed, lex, tokens};

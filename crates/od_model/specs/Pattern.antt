@@ -1,0 +1,10 @@
+pub mod Identifier
+pub mod Spelling
+pub mod Lexing
+pub mod Depth
+pub mod Fields
+pub mod Grammar
+pub mod FirstFault
+pub mod Machine
+pub mod Walk
+pub mod Written
