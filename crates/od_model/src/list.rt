@@ -39,6 +39,14 @@ impl<T> List<T> {
         List { inner }
     }
 
+    /// The elements as a vector, which are not copied.
+    pub fn into_vec(self) -> Vec<T>
+        ensures { result.items ≡ self }
+    {
+        let List { inner } = self;
+        inner
+    }
+
     /// The elements as a slice.
     pub fn get(&self) -> &[T]
         ensures { result.now ≡ self.now }

@@ -1,1 +1,2 @@
 -- The lemmas of this crate, each named by a line `pub mod`.
+pub mod Telling

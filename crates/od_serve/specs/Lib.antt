@@ -1,1 +1,1 @@
--- The definitions of this crate stand in the base crate.
+pub mod Running

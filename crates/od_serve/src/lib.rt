@@ -1,2 +1,5 @@
 //! The server: reads a script, answers its commands by the one-thread object, and writes the lines.
 #![tactic(auto)]
+
+pub mod machine;
+pub mod run;
