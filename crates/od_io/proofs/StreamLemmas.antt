@@ -1,11 +1,13 @@
 -- Lemmas on bytes that are read and written piece by piece.
-use Rattle.std.proofs.Common.{◌≡◌, ℕ, ◌+◌, ◌-◌, ◌<◌, ◌≤◌, List, [], ◌∷◌, ◌++◌, Option, length, take, drop, get_or, min, refl, inl, inr, sym, ap, ◌∙◌, subst, arith, length-append, length-drop, append-nil}
+use Rattle.std.proofs.Common.{◌≡◌, ℕ, ◌+◌, ◌-◌, ◌<◌, ◌≤◌, List, [], ◌∷◌, ◌++◌, Option, length, take, drop, get_or, min, refl, inl, inr, sym, ap, ◌∙◌, subst, arith, length-append, length-drop, append-nil, append_assoc}
 use Rattle.std.proofs.Math.Seq.{take-add, take-append-add, length-take-le, take_at, drop-drop}
 use Rattle.std.proofs.lemmas.List.{take-append-drop, take-append-le, take_rest, take_more, get_or_default, drop_all}
 use Rattle.std.proofs.lemmas.List.Folds.{concat-append}
 use Rattle.std.specs.List.{concat}
 use Rattle.std.proofs.KnownBytes.{Appends-trans, Consumes-trans}
 use Rattle.std.specs.Io.KnownBytes.{Appends, Consumes}
+use Rattle.od_io.specs.Streams.Count.{Rose}
+use Rattle.od_io.specs.Streams.Writing.{AppendsProperPrefix}
 use Rattle.od_io.specs.Streams.Reading.{ConsumesFewer, ConsumesMoreWhere}
 use Rattle.std.specs.Prelude.{◌↔◌, IsTrue, false, is_ok, Contains, MatchResult, Result, Ok, Err}
 use Rattle.std.specs.Ordering.{nat_cmp}
@@ -56,6 +58,19 @@ pub concat-take_more : (pieces : List (List ℕ)) (i : ℕ) (piece : List ℕ) �
 concat-take_more pieces i piece h at =
     ap concat (take_more pieces i piece h) ∙ concat-snoc (take i pieces) (get_or pieces i piece) ∙ ap (λ x. concat (take i pieces) ++ x) (sym at)
 
+-- what the first pieces and the next one have together is no more than all have
+pub length-concat_take_more : (pieces : List (List ℕ)) (i : ℕ) (piece : List ℕ) → i < length pieces → piece ≡ get_or pieces i piece
+    → length (concat (take i pieces)) + length piece ≤ length (concat pieces)
+length-concat_take_more pieces i piece h at =
+    let parts = ap concat (sym (take-append-drop (i + 1) pieces)) ∙ concat-append (take (i + 1) pieces) (drop (i + 1) pieces) in
+    omega (
+      arith,
+      ap length parts,
+      length-append (concat (take (i + 1) pieces)) (concat (drop (i + 1) pieces)),
+      ap length (concat-take_more pieces i piece h at),
+      length-append (concat (take i pieces)) piece,
+    )
+
 -- at most `most` bytes were read, and P does not hold
 pub read-within : (a b : Option (List ℕ)) (bytes : List ℕ) (most : ℕ) (P : Type 0) → Consumes a b bytes → length bytes ≤ most → (P → ⊥) → ConsumesMoreWhere most P a b
 read-within a b bytes most P taken few not = (bytes, taken, ((λ many. absurd (omega arith)), λ holds. absurd (not holds)))
@@ -87,10 +102,12 @@ Contains-at : (xs : List ℕ) (x : ℕ) (r : Result ℕ ℕ)
     → MatchResult r (λ i. (i < length xs) × (get_or xs i 0 ≡ x)) (λ i. (i ≤ length xs) × ((k : ℕ) → k < i → get_or xs k 0 < x) × ((k : ℕ) → i ≤ k → k < length xs → x < get_or xs k 0))
     → IsTrue (is_ok r) ↔ Contains xs x
 Contains-at xs x (Ok i) at = ((λ _. (i, at.0, get_or_default xs i x 0 at.0 ∙ at.1)), λ _. refl)
-Contains-at xs x (Err i) off =
-    ((λ e. absurd (cc)), λ (k, inside, at).
-        let here : get_or xs k 0 ≡ x = get_or_default xs k 0 x inside ∙ at in
-        elim (cases_lt k i) [ inl before ↦ let below = off.1 k before in absurd (omega arith) | inr after ↦ let above = off.2 k after inside in absurd (omega arith) ])
+Contains-at xs x (Err i) off = (
+  (λ e. absurd (cc)),
+  λ (k, inside, at).
+      let here : get_or xs k 0 ≡ x = get_or_default xs k 0 x inside ∙ at in
+      elim (cases_lt k i) [ inl before ↦ let below = off.1 k before in absurd (omega arith) | inr after ↦ let above = off.2 k after inside in absurd (omega arith) ],
+)
 
 -- what a search in an ascending list says of a number
 pub Contains-searched : (xs : List ℕ) (x : ℕ) (r : Result ℕ ℕ) → IsBinarySearchResult (λ y. nat_cmp y x) xs r → IsNonDecreasing xs → IsTrue (is_ok r) ↔ Contains xs x
@@ -98,17 +115,20 @@ Contains-searched xs x r found ascending = Contains-at xs x r (searched xs x r f
 
 -- a number that no element reaches is not in a list
 pub Contains-too_large : (xs : List ℕ) (x bound : ℕ) → ((k : ℕ) → get_or xs k 0 < bound) → (x < bound → ⊥) → IsTrue false ↔ Contains xs x
-Contains-too_large xs x bound small large =
-    ((λ e. absurd (cc)), λ (k, inside, at).
-        let here : get_or xs k 0 ≡ x = get_or_default xs k 0 x inside ∙ at in let below = small k in absurd (large (omega arith)))
+Contains-too_large xs x bound small large = (
+  (λ e. absurd (cc)),
+  λ (k, inside, at).
+      let here : get_or xs k 0 ≡ x = get_or_default xs k 0 x inside ∙ at in let below = small k in absurd (large (omega arith)),
+)
 
 copied-front : (rest copied into : List ℕ) (n : ℕ) → copied ≡ take n rest → n ≡ min (length rest) (length into)
     → (rest ≡ take n (copied ++ drop n into) ++ drop n rest) × (n ≡ 0 → 0 < length (copied ++ drop n into) → drop n rest ≡ [])
 copied-front rest copied into n is most =
     let within : n ≤ length rest = omega arith in
-    let size : length copied ≡ n = ap length is ∙ length-take-le n rest within in
-    (sym (take-append-drop n rest) ∙ ap (λ l. l ++ drop n rest) (sym is ∙ sym (take_at copied (drop n into) n size)),
-    λ none some. drop_all n rest (omega (arith, length-append copied (drop n into), length-drop n into)))
+    let size : length copied ≡ n = ap length is ∙ length-take-le n rest within in (
+      sym (take-append-drop n rest) ∙ ap (λ l. l ++ drop n rest) (sym is ∙ sym (take_at copied (drop n into) n size)),
+      λ none some. drop_all n rest (omega (arith, length-append copied (drop n into), length-drop n into)),
+    )
 
 -- a read from memory: the front of what was left from `at` on was copied, as much as fits
 pub Consumes-copied : (left bytes shown copied into : List ℕ) (at n : ℕ) → left ≡ drop at bytes → shown ≡ bytes
@@ -118,3 +138,18 @@ Consumes-copied left bytes shown copied into at n is same from most =
     let rest : take (length shown - at) (drop at shown) ≡ drop at bytes = take_rest shown at ∙ ap (drop at) same in
     let on : drop n (drop at bytes) ≡ drop (at + n) bytes = drop-drop n at bytes in
     rw (is, ← on) (copied-front (drop at bytes) copied into n (from ∙ ap (take n) rest) (most ∙ ap (λ l. min (length l) (length into)) rest))
+
+-- a count that rose after it did not fall
+pub Rose-later : (a b c : ℕ) → a ≤ b → Rose b c → Rose a c
+Rose-later a b c first (inl more) = inl (omega arith)
+Rose-later a b c first (inr last) = inr last
+
+-- a count that rose and then did not fall
+pub Rose-kept : (a b c : ℕ) → a ≤ b → Rose a b → b ≤ c → Rose a c
+Rose-kept a b c later (inl more) after = inl (omega arith)
+Rose-kept a b c later (inr last) after = elim (cases_lt a c) [ inl more ↦ inl more | inr less ↦ inr (omega arith) ]
+
+-- a write that was cut short after one that was whole
+pub AppendsProperPrefix-after : (a b c : Option (List ℕ)) (bytes more : List ℕ) → Appends a b bytes → AppendsProperPrefix b c more → AppendsProperPrefix a c (bytes ++ more)
+AppendsProperPrefix-after a b c bytes more first (front, rest, is, some, part) =
+    (bytes ++ front, rest, ap (λ l. bytes ++ l) is ∙ sym (append_assoc bytes front rest), some, Appends-trans a b c bytes front first part)

@@ -3,13 +3,15 @@
 #![tactic(auto)]
 
 mod count;
-mod memory;
+mod memory_sink;
+mod memory_source;
 mod pieces;
 mod standard;
 mod streams;
 mod whole;
 
-pub use memory::{MemSink, MemSource};
+pub use memory_sink::MemSink;
+pub use memory_source::MemSource;
 pub use standard::{StdSink, StdSource};
 pub use streams::{Failed, Sink, Source};
 pub use whole::{ReadAll, read_all, write_whole};

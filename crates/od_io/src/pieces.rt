@@ -66,9 +66,7 @@ impl Pieces {
         };
         let pieces = self.pieces.as_slice();
         for piece in pieces {
-            let Ok(()) = whole.extend_from_slice(piece.get()) else {
-                return Err(NoMemory);
-            };
+            whole.extend_from_slice(piece.get()).unwrap();
         }
         Ok(Bytes::from_vec(whole))
     }

@@ -1,5 +1,6 @@
-//! Standard input, output and error. What passes through them is told by no clause.
-ghost use Rattle.std.specs.Prelude.{◌≤◌, length, None};
+//! Standard input, output and error. What passes through them is told by no clause. A call that
+//! a signal cut off counts as failed.
+ghost use Rattle.std.specs.Prelude.{◌≡◌, ◌≤◌, length, None};
 
 use super::count::FaultCount;
 use super::streams::{Failed, Sink, Source};
@@ -14,8 +15,13 @@ pub struct StdSource {
 
 impl StdSource {
     /// Standard input, of which no read failed yet.
-    pub fn new(input: Stdin) -> StdSource {
-        StdSource { input, faults: FaultCount::new() }
+    pub fn new(input: Stdin) -> StdSource
+        ensures { ⟦<StdSource as Source>⟧.faults result ≡ 0 }
+    {
+        StdSource {
+            input,
+            faults: FaultCount::new(),
+        }
     }
 }
 
@@ -64,7 +70,9 @@ pub struct StdSink {
 
 impl StdSink {
     /// Standard output, of which no write failed yet.
-    pub fn output(stdout: Stdout) -> StdSink {
+    pub fn output(stdout: Stdout) -> StdSink
+        ensures { ⟦<StdSink as Sink>⟧.faults result ≡ 0 }
+    {
         StdSink {
             stream: Stream::Output(stdout),
             faults: FaultCount::new(),
@@ -72,7 +80,9 @@ impl StdSink {
     }
 
     /// Standard error, of which no write failed yet.
-    pub fn error(stderr: Stderr) -> StdSink {
+    pub fn error(stderr: Stderr) -> StdSink
+        ensures { ⟦<StdSink as Sink>⟧.faults result ≡ 0 }
+    {
         StdSink {
             stream: Stream::Error(stderr),
             faults: FaultCount::new(),
@@ -93,5 +103,28 @@ impl Sink for StdSink {
             return Err(Failed);
         }
         Ok(taken)
+    }
+}
+
+#[cfg(test)]
+mod tests {
+    use super::*;
+    use std::test::Fail;
+
+    #[test]
+    fn standard_output_takes_bytes(rt: HostRuntime) -> Result<(), Fail> {
+        let mut output = StdSink::output(rt.stdout());
+        assert_eq!(rt; output.write(b"written to standard output\n"), Ok(27));
+        let mut error = StdSink::error(rt.stderr());
+        assert_eq!(rt; error.write(b"written to standard error\n"), Ok(26));
+        Ok(())
+    }
+
+    #[test]
+    fn standard_input_gives_bytes_or_ends(rt: HostRuntime) -> Result<(), Fail> {
+        let mut input = StdSource::new(rt.stdin());
+        let mut into = [0; 8];
+        assert!(rt; input.read(&mut into)? <= 8);
+        Ok(())
     }
 }

@@ -141,3 +141,52 @@ pub fn read_all<S: Source>(alloc: Global, source: &mut S, most: usize) -> Result
         Err(NoMemory) => Err(ReadAll::NoMemory),
     }
 }
+
+#[cfg(test)]
+mod tests {
+    use super::*;
+    use crate::memory_sink::MemSink;
+    use crate::memory_source::MemSource;
+    use std::test::Fail;
+
+    fn source(alloc: Global, count: usize, failing: Vec<u32>) -> Result<MemSource, Fail> {
+        let bytes = vec![in alloc; b'a'; count]?;
+        Ok(MemSource::new(Bytes::from_vec(bytes), failing))
+    }
+
+    #[test]
+    fn a_source_of_several_pieces_is_read_whole(rt: HostRuntime) -> Result<(), Fail> {
+        for count in [0, 1, 65_535, 65_536, 65_537, 200_000] {
+            let mut source = source(rt.alloc(), count, Vec::new(rt.alloc()))?;
+            let bytes = read_all(rt.alloc(), &mut source, count)?;
+            assert_eq!(rt; bytes.get().len(), count);
+        }
+        Ok(())
+    }
+
+    #[test]
+    fn one_byte_too_many_is_too_long(rt: HostRuntime) -> Result<(), Fail> {
+        for most in [0, 1, 65_535, 65_536, 200_000] {
+            let mut source = source(rt.alloc(), most + 1, Vec::new(rt.alloc()))?;
+            let answer = read_all(rt.alloc(), &mut source, most);
+            assert!(rt; matches!(answer, Err(ReadAll::TooLong)), "of {most}");
+        }
+        Ok(())
+    }
+
+    #[test]
+    fn a_fault_between_pieces_is_no_end(rt: HostRuntime) -> Result<(), Fail> {
+        let mut source = source(rt.alloc(), 70_000, vec![in rt.alloc(); 1]?)?;
+        let answer = read_all(rt.alloc(), &mut source, usize::MAX);
+        assert!(rt; matches!(answer, Err(ReadAll::Failed)));
+        Ok(())
+    }
+
+    #[test]
+    fn a_full_sink_has_the_front(rt: HostRuntime) -> Result<(), Fail> {
+        let mut sink = MemSink::new(rt.alloc(), 3)?;
+        assert_eq!(rt; write_whole(&mut sink, b"abcde"), Err(Failed));
+        assert_eq!(rt; sink.written(), b"abc".as_slice());
+        Ok(())
+    }
+}

@@ -1,16 +1,22 @@
 -- Sources and sinks in memory, as contracts see them.
 use Rattle.std.specs.Prelude.{ℕ, List}
 
--- a source in memory: the bytes that it has left, the reads made so far, the numbers of the reads
--- that fail, counted from 0, and the reads that failed
-pub record MemoryToRead : Type 0 where
+-- a source in memory
+pub record SourceState : Type 0 where
+  -- the bytes that were not read yet
   pub left : List ℕ
+  -- how many reads were made, at most 2 ^ 64 - 1: the number of the next one
   pub calls : ℕ
+  -- the numbers of the reads that fail
   pub failing : List ℕ
+  -- how many reads failed
   pub faults : ℕ
 
--- a sink in memory: the bytes that it took, how many it takes in all, and the writes that failed
-pub record MemoryToWrite : Type 0 where
+-- a sink in memory
+pub record SinkState : Type 0 where
+  -- the bytes that were written
   pub written : List ℕ
+  -- how many bytes it takes in all
   pub room : ℕ
+  -- how many writes failed
   pub faults : ℕ

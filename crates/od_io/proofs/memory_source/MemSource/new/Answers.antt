@@ -1,6 +1,6 @@
 use Rattle.std.proofs.Common.{arith}
 use Rattle.std.proofs.lemmas.List.Sorted.{Contains-permutation, IsNonDecreasingBy-from_sort, IsPermutation-sym}
-use Rattle.od_io.proofs.memory.MemSource.new.Goals as goal
+use Rattle.od_io.proofs.memory_source.MemSource.new.Goals as goal
 
 pub invariant_of-result : goal.invariant_of-result
 invariant_of-result c = (omega arith, IsNonDecreasingBy-from_sort (λ x. x) _ c.sort_unstable.ensures.sorted)

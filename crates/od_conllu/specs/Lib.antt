@@ -1,0 +1,4 @@
+pub mod Drafts
+pub mod Reached
+pub mod Rows
+pub mod Seen

@@ -1,9 +1,0 @@
-use Rattle.std.proofs.Common.{ap, sym}
-use Rattle.od_io.specs.Streams.Memory.{MemoryToRead}
-use Rattle.od_io.proofs.StreamLemmas.{Consumes-copied}
-use Rattle.od_io.proofs.memory.MemSourceSource.read.Goals as goal
-
-pub returns-clause-bytes : goal.returns-clause-bytes
-returns-clause-bytes c =
-    Consumes-copied c.args.self.now.left c.self.inside.bytes c.get.result.now c.copy_from_slice.new.self c.args.into.now c.self.inside.at c.min-n.result
-    (ap (λ (m : MemoryToRead). m.left) (sym c.self.view_is)) c.get.ensures c.copy_from_slice.ensures.after c.min-n.ensures
