@@ -1,3 +1,4 @@
 pub mod Data
 pub mod Entries
 pub mod Mentions
+pub mod Names

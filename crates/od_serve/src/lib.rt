@@ -2,5 +2,14 @@
 #![tactic(auto)]
 
 pub mod clients;
+mod cut;
+pub mod known;
+pub mod lines;
 pub mod machine;
+pub mod query;
+pub mod round;
 pub mod run;
+pub mod scan;
+pub mod script;
+pub mod serve;
+mod walk;

@@ -1,75 +1,29 @@
--- The JSON values of output lines. Keys stand in the order of their bytes.
-use Rattle.std.specs.Prelude.{ℕ, List, [], ◌∷◌, ◌++◌, codes}
-use Rattle.serde_json.specs.Data.{Data, number, string, unsigned}
+-- The JSON values of output lines.
+use Rattle.std.specs.Prelude.{ℕ, List, [], ◌∷◌, ◌++◌, Option, Some, None}
+use Rattle.serde_json.specs.Data.{Data, null, number, string, object, unsigned, Members, no_members, put}
 use Rattle.serde_json.specs.Written.{compact_text}
-use Rattle.od_model.specs.declared.conllu.ConlluKind.{ConlluKind}
-use Rattle.od_model.specs.declared.conllu.ConlluKind.TheVariants.{TooLong, NotUtf8, Columns, BadId, IdOrder, TooManyTokens, EmptyForm, BadHead, HeadRange, Empty}
-use Rattle.od_model.specs.declared.history.Phase.{Phase}
-use Rattle.od_model.specs.declared.history.Phase.TheVariants as stage
-use Rattle.od_model.specs.declared.history.Command.{Command}
-use Rattle.od_model.specs.declared.history.Command.TheVariants.{AddDoc, OpenSession, Step, Resume, Print, Release, Settle}
-use Rattle.od_model.specs.declared.history.Reply.{Reply}
-use Rattle.od_model.specs.declared.history.Reply.TheVariants.{Refused}
-use Rattle.od_model.specs.declared.history.Refusal.{Refusal}
-use Rattle.od_model.specs.declared.history.Refusal.TheVariants.{BadDoc, Duplicate, Full, NoGrammar, BadLimit, Taken, NoRoom, NoSession, Busy, NotHeld, Finished, AtLimit, Crowded, TooMany}
 
+-- a number that is not negative
 abbrev pub count : ℕ → Data
 count n = number (unsigned n)
 
 abbrev pub word : List ℕ → Data
 word text = string text
 
+-- a text, or null where there is none
+abbrev pub word_or_null : Option (List ℕ) → Data
+word_or_null None = null
+word_or_null (Some text) = word text
+
+-- the members with more, each put at its key
+abbrev pub with_members : List (List ℕ × Data) → Members → Members
+with_members [] members = members
+with_members (m ∷ more) members = with_members more (put m.0 m.1 members)
+
+-- the object of some members: its keys stand in the order of their bytes
+abbrev pub object_of : List (List ℕ × Data) → Data
+object_of members = object (with_members members no_members)
+
 -- the value as compact JSON, and the end of the line
 abbrev pub line_of : Data → List ℕ
 line_of value = compact_text value ++ 10 ∷ []
-
--- the name of a command
-abbrev pub command_text : Command → List ℕ
-command_text (AddDoc name body) = codes "doc"
-command_text (OpenSession name grammar limit) = codes "open"
-command_text (Step name) = codes "step"
-command_text (Resume name) = codes "resume"
-command_text (Print name) = codes "print"
-command_text (Release name) = codes "release"
-command_text Settle = codes "settle"
-
--- the state of a session
-abbrev pub state_text : Phase → List ℕ
-state_text stage.Going = codes "going"
-state_text stage.Finished = codes "finished"
-state_text stage.AtLimit = codes "limit"
-
--- the name of a document's fault
-abbrev pub kind_text : ConlluKind → List ℕ
-kind_text TooLong = codes "TooLong"
-kind_text NotUtf8 = codes "NotUtf8"
-kind_text Columns = codes "Columns"
-kind_text BadId = codes "BadId"
-kind_text IdOrder = codes "IdOrder"
-kind_text TooManyTokens = codes "TooManyTokens"
-kind_text EmptyForm = codes "EmptyForm"
-kind_text BadHead = codes "BadHead"
-kind_text HeadRange = codes "HeadRange"
-kind_text Empty = codes "Empty"
-
--- the name of a refusal
-abbrev pub refusal_text : Refusal → List ℕ
-refusal_text (BadDoc line kind) = codes "BadDoc"
-refusal_text Duplicate = codes "Duplicate"
-refusal_text (Full documents bytes) = codes "Full"
-refusal_text NoGrammar = codes "NoGrammar"
-refusal_text (BadLimit limit) = codes "BadLimit"
-refusal_text Taken = codes "Taken"
-refusal_text (NoRoom count) = codes "NoRoom"
-refusal_text NoSession = codes "NoSession"
-refusal_text (Busy owner) = codes "Busy"
-refusal_text NotHeld = codes "NotHeld"
-refusal_text (Finished round) = codes "Finished"
-refusal_text (AtLimit round) = codes "AtLimit"
-refusal_text (Crowded rule document sentence count) = codes "Crowded"
-refusal_text (TooMany weight) = codes "TooMany"
-
--- the reply's name: ok, or the refusal's
-abbrev pub reply_text : Reply → List ℕ
-reply_text (Refused refusal) = refusal_text refusal
-reply_text reply = codes "ok"

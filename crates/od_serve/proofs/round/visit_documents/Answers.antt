@@ -1,0 +1,20 @@
+-- The walk goes on from document to document.
+use Rattle.std.proofs.Common.{fold, ap, ◌∙◌, arith}
+use Rattle.od_model.specs.declared.mention.RoundResult.TheVariants.{Found}
+use Rattle.od_model.specs.Rounds.Round.{joined, walked}
+use Rattle.od_serve.specs.Walks.{result_of}
+use Rattle.od_serve.proofs.Walks.{document_items, documents_from, walk_stopped}
+use Rattle.od_serve.proofs.round.visit_documents.Goals as goal
+
+pub loop-document-init : goal.loop-document-init
+loop-document-init c = (
+  c.requires.weighed,
+  ap (fold (walked (joined c.args.earlier.now.rounds.now)) (Found c.args.walk.now.found)) (documents_from c.args.words.now (joined c.args.earlier.now.rounds.now) c.args.docs.now),
+)
+
+pub returns-in-Some : goal.returns-in-Some
+returns-in-Some c =
+    let old = joined c.args.earlier.now.rounds.now in record {
+      met = walk_stopped (document_items c.args.words.now old) old (Found c.loop-document.walk.found) c.args.docs.now c.loop-document.document c.index-docs-document.result _ c.in-Some.total
+          (omega arith) c.index-docs-document.is c.loop-document.invariant.1 (c.in_ok-total.ensures.met ∙ ap (λ heavy. result_of heavy c.visit_document.new.walk.found) c.in-Some.is);
+    }

@@ -1,0 +1,170 @@
+use crate::lines::{entry_line, session_lines};
+use od_model::conllu::ConlluKind;
+use od_model::doc::Doc;
+use od_model::history::{Command, Entry, Phase, Refusal, Reply};
+use od_model::list::List;
+use od_model::mention::{Mention, Part};
+use od_model::sentence::Sentence;
+use od_model::text::{Bytes, NoMemory, Text};
+use od_model::token::Token;
+use std::alloc::Global;
+use std::process::Abort;
+use std::test::Fail;
+
+// Asserts that the line of caller 1 is this one.
+fn assert_line(
+    rt: &impl Abort,
+    alloc: Global,
+    call: u32,
+    command: Command,
+    reply: Reply,
+    line: &str,
+) -> Result<(), NoMemory> {
+    let entry = Entry {
+        caller: 1,
+        call,
+        command,
+        reply,
+    };
+    assert!(rt; entry_line(alloc, &entry)?.get() == line.as_bytes());
+    Ok(())
+}
+
+fn token(alloc: Global, word: &str) -> Result<Token, NoMemory> {
+    Ok(Token {
+        word: Text::from_str(alloc, word)?,
+        norm: Text::from_str(alloc, word)?,
+        lemma: None,
+        upos: None,
+        tag: None,
+        entity: None,
+        chunk: None,
+    })
+}
+
+// One sentence, `The Dogs bark`.
+fn document(alloc: Global) -> Result<Doc, NoMemory> {
+    let mut tokens = List::new(alloc);
+    tokens.push(token(alloc, "The")?)?;
+    tokens.push(token(alloc, "Dogs")?)?;
+    tokens.push(token(alloc, "bark")?)?;
+    let mut sentences = List::new(alloc);
+    sentences.push(Sentence {
+        tokens,
+        edges: List::new(alloc),
+    })?;
+    Ok(Doc {
+        name: Text::from_str(alloc, "d1")?,
+        size: 9,
+        sentences,
+    })
+}
+
+fn mention(alloc: Global, start: u32, parts: List<Part>) -> Result<Mention, NoMemory> {
+    Ok(Mention {
+        document: 0,
+        sentence: 0,
+        start,
+        end: 3,
+        label: Text::from_str(alloc, "Query")?,
+        rule: Text::from_str(alloc, "query")?,
+        parts,
+    })
+}
+
+#[test]
+fn entries_have_their_lines(rt: HostRuntime) -> Result<(), Fail> {
+    let alloc = rt.alloc();
+    let name = Text::from_str(alloc, "d1")?;
+    let body = Bytes::new(alloc);
+    assert_line(
+        &rt,
+        alloc,
+        1,
+        Command::AddDoc { name, body },
+        Reply::Added { documents: 1 },
+        "{\"call\":1,\"caller\":1,\"command\":\"doc\",\"documents\":1,\"name\":\"d1\",\"reply\":\"ok\"}\n",
+    )?;
+    let name = Text::from_str(alloc, "s")?;
+    let grammar = Text::new(alloc);
+    assert_line(
+        &rt,
+        alloc,
+        2,
+        Command::OpenSession {
+            name,
+            grammar,
+            limit: 5,
+        },
+        Reply::Opened {
+            documents: 1,
+            limit: 5,
+        },
+        "{\"call\":2,\"caller\":1,\"command\":\"open\",\"documents\":1,\"limit\":5,\"name\":\"s\",\"reply\":\"ok\"}\n",
+    )?;
+    let name = Text::from_str(alloc, "s")?;
+    assert_line(
+        &rt,
+        alloc,
+        3,
+        Command::Step { name },
+        Reply::Stepped {
+            round: 1,
+            added: 1,
+            phase: Phase::Going,
+        },
+        "{\"added\":1,\"call\":3,\"caller\":1,\"command\":\"step\",\"name\":\"s\",\"reply\":\"ok\",\"round\":1,\"state\":\"going\"}\n",
+    )?;
+    let name = Text::from_str(alloc, "s")?;
+    assert_line(
+        &rt,
+        alloc,
+        5,
+        Command::Print { name },
+        Reply::Printed {
+            round: 2,
+            mentions: 1,
+            phase: Phase::Finished,
+        },
+        "{\"call\":5,\"caller\":1,\"command\":\"print\",\"mentions\":1,\"name\":\"s\",\"reply\":\"ok\",\"round\":2,\"state\":\"finished\"}\n",
+    )?;
+    let name = Text::from_str(alloc, "d1")?;
+    let body = Bytes::new(alloc);
+    let refusal = Refusal::BadDoc {
+        line: 3,
+        kind: ConlluKind::HeadRange,
+    };
+    assert_line(
+        &rt,
+        alloc,
+        1,
+        Command::AddDoc { name, body },
+        Reply::Refused(refusal),
+        "{\"call\":1,\"caller\":1,\"command\":\"doc\",\"kind\":\"HeadRange\",\"line\":3,\"name\":\"d1\",\"reply\":\"BadDoc\"}\n",
+    )?;
+    Ok(())
+}
+
+#[test]
+fn mentions_have_their_lines(rt: HostRuntime) -> Result<(), Fail> {
+    let alloc = rt.alloc();
+    let session = Text::from_str(alloc, "s")?;
+    let docs = [document(alloc)?];
+    let mut parts = List::new(alloc);
+    parts.push(Part {
+        name: Text::from_str(alloc, "who")?,
+        label: None,
+        start: 1,
+        end: 2,
+    })?;
+    let mut first = List::new(alloc);
+    first.push(mention(alloc, 1, List::new(alloc))?)?;
+    let mut second = List::new(alloc);
+    second.push(mention(alloc, 3, parts)?)?;
+    let lines = session_lines(alloc, &session, &docs, &[first, List::new(alloc), second])?;
+    let expected =
+        "{\"arguments\":[],\"document\":\"d1\",\"end\":3,\"label\":\"Query\",\"rule\":\"query\",\"sentence\":0,\"session\":\"s\",\"start\":1,\"text\":\"Dogs bark\"}\n\
+        {\"arguments\":[{\"end\":2,\"label\":null,\"name\":\"who\",\"start\":1,\"text\":\"Dogs\"}],\"document\":\"d1\",\"end\":3,\"label\":\"Query\",\"rule\":\"query\",\"sentence\":0,\"session\":\"s\",\"start\":3,\"text\":\"\"}\n";
+    assert!(rt; lines.get() == expected.as_bytes());
+    Ok(())
+}

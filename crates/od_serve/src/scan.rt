@@ -1,0 +1,78 @@
+//! Where the words of a query stand in a sentence.
+ghost use Rattle.std.specs.Prelude.{◌≡◌, ◌+◌, ◌<◌, ◌≤◌, length, List as Seq, IfOk, IsTrue};
+ghost use Rattle.od_model.specs.declared.mention.Mention.{Mention as Found};
+ghost use Rattle.od_model.specs.Matching.Words.{begins_with};
+ghost use Rattle.od_model.specs.Matching.Rules.{mentions, rule_mentions};
+ghost use Rattle.od_serve.specs.Queries.{words_rule, query_mention};
+
+use od_model::list::List;
+use od_model::mention::Mention;
+use od_model::sentence::Sentence;
+use od_model::text::{NoMemory, Text};
+use od_model::token::Token;
+use std::alloc::Global;
+
+/// Whether the tokens begin with the words, by their norms.
+pub fn begin_with(words: &[Text], tokens: &[Token]) -> bool
+    ensures begins { result ≡ begins_with words.now tokens.now }
+    ensures fits { IsTrue result → length words.now ≤ length tokens.now }
+{
+    match words {
+        [] => true,
+        [word, rest @ ..] => match tokens {
+            [] => false,
+            [token, others @ ..] => word.same(&token.norm) && begin_with(rest, others),
+        },
+    }
+}
+
+/// The mention that a query makes of the tokens from the start to before the end, numbered from 0.
+fn make_mention(
+    alloc: Global,
+    document: u32,
+    sentence: u32,
+    start: u32,
+    end: u32,
+) -> Result<Mention, NoMemory>
+    ensures { IfOk result (λ m. m ≡ query_mention document sentence start end) }
+{
+    Ok(Mention {
+        document,
+        sentence,
+        start,
+        end,
+        label: Text::from_str(alloc, "Query")?,
+        rule: Text::from_str(alloc, "query")?,
+        parts: List::new(alloc),
+    })
+}
+
+/// The mentions of a query of these folded words on a sentence, numbered from 0 within its document. The search goes on behind each of them.
+pub fn mentions_of(
+    alloc: Global,
+    words: &[Text],
+    document: u32,
+    number: u32,
+    sentence: &Sentence,
+) -> Result<Vec<Mention>, NoMemory>
+    requires { 0 < length words.now }
+    ensures { IfOk result (λ found. (state : Seq Found) → rule_mentions (words_rule words.now) document number sentence.now state ≡ mentions found.items) }
+{
+    let tokens = sentence.tokens.get();
+    let mut found = Vec::new(alloc);
+    let mut i = 0;
+    while i < tokens.len() {
+        if begin_with(words, &tokens[i..]) {
+            let end = i + words.len();
+            let mention = make_mention(alloc, document, number, i as u32, end as u32)?;
+            match found.push(mention) {
+                Ok(()) => {}
+                Err(_) => return Err(NoMemory),
+            }
+            i = end;
+        } else {
+            i += 1;
+        }
+    }
+    Ok(found)
+}
