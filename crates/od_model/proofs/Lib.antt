@@ -3,6 +3,6 @@ pub mod Document
 pub mod Histories
 pub mod Lists
 pub mod Matching
-pub mod Rounds
 pub mod Objects
+pub mod Rounds
 pub mod Runnable

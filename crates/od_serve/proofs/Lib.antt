@@ -12,5 +12,6 @@ pub mod Phases
 pub mod Queries
 pub mod Scans
 pub mod Scripts
+pub mod Stores
 pub mod Telling
 pub mod Walks

@@ -1,5 +1,6 @@
 -- Lines that were worked out by hand.
-use Rattle.std.proofs.Common.{◌≡◌, ℕ, List, [], ◌∷◌, Some, None, codes, refl}
+use Rattle.std.proofs.Common.{◌≡◌, ℕ, List, [], ◌∷◌, Some, None, codes, refl, lit<, lit≤}
+use Rattle.std.proofs.lemmas.List.Elements.{All-nil}
 use Rattle.std.specs.Fmt.{digits}
 use Rattle.serde_json.proofs.OnLiterals.{serde_json_on_literals}
 use Rattle.od_model.specs.declared.conllu.ConlluKind.TheVariants.{HeadRange}
@@ -11,6 +12,7 @@ use Rattle.od_model.specs.declared.history.Reply.TheVariants.{Added, Opened, Ste
 use Rattle.od_model.specs.declared.history.Refusal.TheVariants.{BadDoc, Busy, Crowded}
 use Rattle.od_model.specs.declared.history.Entry.{Entry}
 use Rattle.od_model.specs.declared.token.Token.{Token}
+use Rattle.od_model.specs.declared.sentence.Sentence.{Sentence}
 use Rattle.od_model.specs.declared.doc.Doc.{Doc}
 use Rattle.od_model.specs.Lines.Entries.{own_line}
 use Rattle.od_model.specs.Lines.Mentions.{mention_line}
@@ -55,9 +57,13 @@ settled = refl
 abbrev token : List ℕ → Token
 token word = record { word = word; norm = word; lemma = None; upos = None; tag = None; entity = None; chunk = None }
 
--- the document of the examples
+-- the sentence of the examples
+abbrev sentence : Sentence
+sentence = record { tokens = token (codes "The") ∷ token (codes "Dogs") ∷ token (codes "bark") ∷ []; edges = []; some = lit< tt; few = lit≤ tt; ends = All-nil _; distinct = refl }
+
+-- its document
 abbrev document : Doc
-document = record { name = codes "d1"; size = 9; sentences = record { tokens = token (codes "The") ∷ token (codes "Dogs") ∷ token (codes "bark") ∷ []; edges = [] } ∷ [] }
+document = record { name = codes "d1"; size = 75; sentences = sentence ∷ []; some = lit< tt; small = lit≤ tt; weight = lit≤ tt }
 
 dogs_bark : mention_line (codes "s") (document ∷ []) (record { document = 0; sentence = 0; start = 1; end = 3; label = codes "Query"; rule = codes "query"; parts = [] })
     ≡ codes "{\"arguments\":[],\"document\":\"d1\",\"end\":3,\"label\":\"Query\",\"rule\":\"query\",\"sentence\":0,\"session\":\"s\",\"start\":1,\"text\":\"Dogs bark\"}\n"

@@ -18,6 +18,7 @@ use Rattle.od_model.specs.Lines.Entries.{name_of, name_members, entry_members, r
 abbrev IsPlain : List ℕ × Data → Type 0
 IsPlain m = has_float m.1 ≡ false
 
+-- by the order of the key and the first key that is there
 put_at : (o : Ordering) (k l : List ℕ) (d e : Data) (ms : Members) → has_float d ≡ false → has_float e ≡ false → members_have_float ms ≡ false → members_have_float (put k d ms) ≡ false
     → members_have_float (match_ordering o (member k d (member l e ms)) (member l d ms) (member l e (put k d ms))) ≡ false
 put_at Less k l d e ms plain other rest more = rw (plain, other, rest)
@@ -32,12 +33,14 @@ right_plain : (a b : Bool) → (a || b) ≡ false → b ≡ false
 right_plain true b h = absurd cc
 right_plain false b h = h
 
+-- a member more, without a float
 put_plain : (k : List ℕ) (d : Data) (ms : Members) → has_float d ≡ false → members_have_float ms ≡ false → members_have_float (put k d ms) ≡ false
 put_plain k d no_members plain rest = rw plain
 put_plain k d (member l e ms) plain rest =
     let other = right_plain (has_float e) (members_have_float ms) rest in
     put_at (slice_cmp nat_cmp k l) k l d e ms plain (left_plain (has_float e) (members_have_float ms) rest) other (put_plain k d ms plain other)
 
+-- members more, without floats
 with_members_plain : (ms : List (List ℕ × Data)) (old : Members) → Each IsPlain ms → members_have_float old ≡ false → members_have_float (with_members ms old) ≡ false
 with_members_plain [] old each plain = plain
 with_members_plain (m ∷ ms) old each plain = with_members_plain ms (put m.0 m.1 old) each.1 (put_plain m.0 m.1 old each.0 plain)

@@ -22,18 +22,22 @@ place r i = record { round = r; index = i }
 
 -- ## What stands at a place is among the mentions
 
+-- in one list
 in_list : (l : List Mention) (i : ℕ) (n m : Mention) → slice_get l i ≡ Some n → same_mention m n ≡ true → is_among l m ≡ true
 in_list l i n m e h = list_any_at (same_mention m) l i n (slice_get_within l i n e) (ap (same_mention m) (get_or_from_slice_get l i n n e) ∙ h)
 
+-- in the lists of the rounds
 in_rounds : (rounds : List (List Mention)) (r i : ℕ) (n m : Mention) → mention_at rounds (place r i) ≡ Some n → same_mention m n ≡ true → is_among (joined rounds) m ≡ true
 in_rounds [] r i n m e h = absurd (cc)
 in_rounds (l ∷ ls) zero i n m e h = is_among-append l (joined ls) m ∙ or_left (is_among l m) (is_among (joined ls) m) (in_list l i n m e h)
 in_rounds (l ∷ ls) (suc r) i n m e h = is_among-append l (joined ls) m ∙ or_right (is_among l m) (is_among (joined ls) m) (in_rounds ls r i n m e h)
 
+-- by the test of the place
 same_among : (rounds : List (List Mention)) (m : Mention) (p : Place) (o : Option Mention) → mention_at rounds p ≡ o → is_same m o ≡ true → is_among (joined rounds) m ≡ true
 same_among rounds m p None e h = absurd (let q : false ≡ true = h in cc)
 same_among rounds m p (Some n) e h = in_rounds rounds p.round p.index n m e h
 
+-- at one of several places
 any_among : (rounds : List (List Mention)) (m : Mention) (places : List Place) → list_any (has_at rounds m) places ≡ true → is_among (joined rounds) m ≡ true
 any_among rounds m [] h = absurd (let q : false ≡ true = h in cc)
 any_among rounds m (p ∷ ps) h =
@@ -50,6 +54,7 @@ record StandsIn (l : List Mention) (m : Mention) : Type 0 where
   at : slice_get l index ≡ Some other
   same : same_mention m other ≡ true
 
+-- in one list
 find_in : (l : List Mention) (m : Mention) → is_among l m ≡ true → StandsIn l m
 find_in [] m h = absurd (let q : false ≡ true = h in cc)
 find_in (n ∷ l) m h =
@@ -65,6 +70,7 @@ record Stands (rounds : List (List Mention)) (m : Mention) : Type 0 where
   at : mention_at rounds (place round index) ≡ Some other
   same : same_mention m other ≡ true
 
+-- in the lists of the rounds
 find_stands : (rounds : List (List Mention)) (m : Mention) → is_among (joined rounds) m ≡ true → Stands rounds m
 find_stands [] m h = absurd (let q : false ≡ true = h in cc)
 find_stands (l ∷ ls) m h =
@@ -73,12 +79,15 @@ find_stands (l ∷ ls) m h =
       | inr there ↦ let s = find_stands ls m there in record { round = suc s.round; index = s.index; other = s.other; at = s.at; same = s.same }
     ]
 
+-- places that pass the test of sameness are equal
 place_same : (p q : Place) → same_place p q ≡ true → p ≡ q
 place_same p q e = let parts = and_parts (eqb p.round q.round) (eqb p.index q.index) e in ap₂ place (eqb-true p.round q.round parts.0) (eqb-true p.index q.index parts.1)
 
+-- each place passes it with itself
 same_itself : (p : Place) → same_place p p ≡ true
 same_itself p = and_from (eqb p.round p.round) (eqb p.index p.index) (eq-eqb p.round p.round refl) (eq-eqb p.index p.index refl)
 
+-- what holds at a noted place holds at one of the places
 any_noted : (test : Place → Bool) (places : List Place) (at : Place) → list_any (same_place at) places ≡ true → test at ≡ true → list_any test places ≡ true
 any_noted test [] at h e = absurd (let q : false ≡ true = h in cc)
 any_noted test (p ∷ ps) at h e =
@@ -87,6 +96,7 @@ any_noted test (p ∷ ps) at h e =
       | inr there ↦ or_right (test p) (list_any test ps) (any_noted test ps at there e)
     ]
 
+-- it stands at one of the places under its hash
 among_any : (known : Known) (rounds : List (List Mention)) (m : Mention) → IsComplete known rounds → is_among (joined rounds) m ≡ true
     → list_any (has_at rounds m) (noted known (mention_hash m)) ≡ true
 among_any known rounds m c h =
@@ -104,6 +114,7 @@ found_by_notes known rounds m c =
 
 -- ## Notes of one round more
 
+-- no mention stands in an empty round
 at_empty : (rounds : List (List Mention)) (r i : ℕ) (m : Mention) → mention_at (rounds ++ [] ∷ []) (place r i) ≡ Some m → mention_at rounds (place r i) ≡ Some m
 at_empty [] zero i m e = e
 at_empty [] (suc r) i m e = e
@@ -114,6 +125,7 @@ at_empty (l ∷ ls) (suc r) i m e = at_empty ls r i m e
 pub complete_empty : (known : Known) (rounds : List (List Mention)) → IsComplete known rounds → IsComplete known (rounds ++ [] ∷ [])
 complete_empty known rounds c = record { notes = λ p m e. c.notes p m (at_empty rounds p.round p.index m e) }
 
+-- what stands in a list with one mention more stood there before, or is that mention
 in_more : (taken : List Mention) (m n : Mention) (i : ℕ) → slice_get (taken ++ m ∷ []) i ≡ Some n → (slice_get taken i ≡ Some n) ⊎ ((i ≡ length taken) × (m ≡ n))
 in_more [] m n zero e = inr (refl, cc)
 in_more [] m n (suc i) e = absurd (cc)
@@ -124,6 +136,7 @@ in_more (x ∷ taken) m n (suc i) e =
       | inr new ↦ inr (ap suc new.0, new.1)
     ]
 
+-- the same, in the last of the rounds
 at_more : (rounds : List (List Mention)) (taken : List Mention) (m n : Mention) (r i : ℕ) → mention_at (rounds ++ (taken ++ m ∷ []) ∷ []) (place r i) ≡ Some n
     → (mention_at (rounds ++ taken ∷ []) (place r i) ≡ Some n) ⊎ ((r ≡ length rounds) × (i ≡ length taken) × (m ≡ n))
 at_more [] taken m n zero i e =
@@ -143,13 +156,16 @@ at_more (l ∷ ls) taken m n (suc r) i e =
 abbrev pub NotesOne : Known → Known → Mention → Place → Type 0
 NotesOne before after m p = (hash : ℕ) → noted after hash ≡ cond (nat_eq (mention_hash m) hash) (noted before hash ++ p ∷ []) (noted before hash)
 
+-- a place that was there stays there
 kept_under : (b : Bool) (xs : List Place) (p q : Place) → list_any (same_place q) xs ≡ true → list_any (same_place q) (cond b (xs ++ p ∷ []) xs) ≡ true
 kept_under true xs p q h = list_any-append (same_place q) xs (p ∷ []) ∙ or_left (list_any (same_place q) xs) (list_any (same_place q) (p ∷ [])) h
 kept_under false xs p q h = h
 
+-- no note is lost
 kept_note : (before after : Known) (m : Mention) (p : Place) → NotesOne before after m p → (hash : ℕ) (q : Place) → is_noted before hash q ≡ true → is_noted after hash q ≡ true
 kept_note before after m p says hash q h = ap (list_any (same_place q)) (says hash) ∙ kept_under (nat_eq (mention_hash m) hash) (noted before hash) p q h
 
+-- the new place is noted
 new_note : (before after : Known) (m : Mention) (p : Place) → NotesOne before after m p → is_noted after (mention_hash m) p ≡ true
 new_note before after m p says =
     let h = mention_hash m in

@@ -16,6 +16,7 @@ use Rattle.od_model.proofs.Rounds.Queries.{RunsQuery, phase_with-query}
 abbrev pub phase_by : Bool → ℕ → ℕ → Phase
 phase_by last count limit = if last && nat_le 1 count then Finished else (if count == limit then AtLimit else Going)
 
+-- it is the phase of rules that begin in round 1
 phase_is : (limit : ℕ) (lists : List (List Mention)) → phase_by (ends_empty lists) (length lists) limit ≡ phase 1 limit lists
 unfolding phase
 phase_is limit lists = refl
@@ -35,6 +36,7 @@ last_decides b (x ∷ lists) zero l h e =
     ap (fold (λ (c : Bool) (y : List Mention). length y == 0) (length x == 0)) none ∙ ap (λ y. length y == 0) same
 last_decides b (x ∷ lists) (suc i) l h e = last_decides (length x == 0) lists i l (omega arith) e
 
+-- where there is a last list, it decides
 pub ends_empty-last : (lists : List (List Mention)) (l : List Mention) → Some l ≡ slice_get lists (length lists - 1) → ends_empty lists ≡ (length l == 0)
 ends_empty-last [] l e = absurd (cc)
 ends_empty-last (x ∷ lists) l e = last_decides false (x ∷ lists) (length (x ∷ lists) - 1) l (omega arith) (sym e)

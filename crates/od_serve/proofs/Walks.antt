@@ -53,6 +53,7 @@ module _ {X : Type 0} (J : ℕ × X → List Item) where
   abbrev pub left_from : ℕ → List X → List Item
   left_from n xs = flat_map J (enumerate_from n (drop n xs))
 
+  -- the next one and those behind it
   left_from-next : (xs : List X) (n : ℕ) (x : X) → n < length xs → x ≡ get_or xs n x → left_from n xs ≡ J (n, x) ++ left_from (n + 1) xs
   left_from-next xs n x h is =
       ap (λ ys. flat_map J (enumerate_from n ys)) (drop_more xs n x h) ∙ ap (λ y. J (n, y) ++ left_from (n + 1) xs) (sym is)
@@ -91,6 +92,7 @@ pub sentences_from : (words : List (List ℕ)) (old : List Mention) (document : 
 sentences_from words old document doc =
     sym (flat_map-map (words_items words old) (λ (s : ℕ × Sentence). record { document = document; number = s.0; words = s.1 }) (enumerate_from 0 doc.sentences))
 
+-- a list of lists is met list by list
 in_parts : {X Y Z : Type 0} (f : Y → List Z) (g : X → List Y) (xs : List X) → flat_map (λ x. flat_map f (g x)) xs ≡ flat_map f (flat_map g xs)
 in_parts f g [] = refl
 in_parts f g (x ∷ xs) = ap (λ zs. flat_map f (g x) ++ zs) (in_parts f g xs) ∙ sym (flat_map-append f (g x) (flat_map g xs))
@@ -106,10 +108,11 @@ pub sentence_given : (words : List (List ℕ)) (old : List Mention) (document nu
 sentence_given words old document number sentence found says =
     ap (items_of 1 (record { document = document; number = number; words = sentence })) (says (in_sentence document number old))
 
--- a document has at most 2 ^ 20 sentences
+-- each sentence counts
 sentences_few : (ss : List Sentence) → length ss ≤ weight_of ss
 sentences_few [] = omega arith
 sentences_few (s ∷ ss) = omega (arith, sentences_few ss)
 
+-- a document has at most 2 ^ 20 sentences
 pub document_few : (doc : Doc) → length doc.sentences ≤ 2 ^ 20
 document_few doc = omega (arith, sentences_few doc.sentences, doc.small, doc.weight)

@@ -5,4 +5,5 @@ pub mod Known
 pub mod Queries
 pub mod Running
 pub mod Scripts
+pub mod Stores
 pub mod Walks

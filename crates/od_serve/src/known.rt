@@ -189,3 +189,43 @@ impl Known {
         Ok(())
     }
 }
+
+#[cfg(test)]
+mod tests {
+    use super::*;
+    use std::test::Fail;
+
+    fn mention(alloc: Global, document: u32, start: u32) -> Result<Mention, NoMemory> {
+        Ok(Mention {
+            document,
+            sentence: 0,
+            start,
+            end: start.saturating_add(1),
+            label: Text::from_str(alloc, "Query")?,
+            rule: Text::from_str(alloc, "query")?,
+            parts: List::new(alloc),
+        })
+    }
+
+    /// Two mentions of one round and one of the next are found, and one that stands in neither is not.
+    #[test]
+    fn finds_the_mentions_of_each_round(rt: HostRuntime) -> Result<(), Fail> {
+        let alloc = rt.alloc();
+        let mut known = Known::new(alloc);
+        let mut first = List::new(alloc);
+        first.push(mention(alloc, 0, 1)?)?;
+        first.push(mention(alloc, 0, 5)?)?;
+        known.extend(alloc, &[], first.get())?;
+        let mut rounds = List::new(alloc);
+        rounds.push(first)?;
+        let mut second = List::new(alloc);
+        second.push(mention(alloc, 2, 1)?)?;
+        known.extend(alloc, rounds.get(), second.get())?;
+        rounds.push(second)?;
+        assert!(rt; known.holds(rounds.get(), &mention(alloc, 0, 1)?));
+        assert!(rt; known.holds(rounds.get(), &mention(alloc, 0, 5)?));
+        assert!(rt; known.holds(rounds.get(), &mention(alloc, 2, 1)?));
+        assert!(rt; !known.holds(rounds.get(), &mention(alloc, 2, 5)?));
+        Ok(())
+    }
+}

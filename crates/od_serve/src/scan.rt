@@ -13,7 +13,7 @@ use od_model::token::Token;
 use std::alloc::Global;
 
 /// Whether the tokens begin with the words, by their norms.
-pub fn begin_with(words: &[Text], tokens: &[Token]) -> bool
+fn begin_with(words: &[Text], tokens: &[Token]) -> bool
     ensures begins { result ≡ begins_with words.now tokens.now }
     ensures fits { IsTrue result → length words.now ≤ length tokens.now }
 {
@@ -75,4 +75,60 @@ pub fn mentions_of(
         }
     }
     Ok(found)
+}
+
+#[cfg(test)]
+mod tests {
+    use super::*;
+    use std::test::Fail;
+
+    fn token(alloc: Global, word: &str, norm: &str) -> Result<Token, NoMemory> {
+        Ok(Token {
+            word: Text::from_str(alloc, word)?,
+            norm: Text::from_str(alloc, norm)?,
+            lemma: None,
+            upos: None,
+            tag: None,
+            entity: None,
+            chunk: None,
+        })
+    }
+
+    fn sentence_of(tokens: List<Token>, alloc: Global) -> Option<Sentence> {
+        if tokens.len() == 0 || tokens.len() > 2000 {
+            return None;
+        }
+        Some(Sentence {
+            tokens,
+            edges: List::new(alloc),
+        })
+    }
+
+    /// Of `Ha ha ha oh HA ha` two mentions of `ha ha` are found, neither of which shares a token with the other.
+    #[test]
+    fn finds_words_by_norm_one_match_behind_another(rt: HostRuntime) -> Result<(), Fail> {
+        let alloc = rt.alloc();
+        let mut tokens = List::new(alloc);
+        for (word, norm) in [
+            ("Ha", "ha"),
+            ("ha", "ha"),
+            ("ha", "ha"),
+            ("oh", "oh"),
+            ("HA", "ha"),
+            ("ha", "ha"),
+        ] {
+            tokens.push(token(alloc, word, norm)?)?;
+        }
+        let sentence = sentence_of(tokens, alloc).ok_or("no sentence")?;
+        let words = [Text::from_str(alloc, "ha")?, Text::from_str(alloc, "ha")?];
+        let found = mentions_of(alloc, &words, 3, 7, &sentence)?;
+        let [first, second] = found.as_slice() else {
+            panic!(rt; "two mentions");
+        };
+        assert_eq!(rt; (first.start, first.end), (0, 2));
+        assert_eq!(rt; (second.start, second.end), (4, 6));
+        assert_eq!(rt; (second.document, second.sentence), (3, 7));
+        assert_eq!(rt; (second.label.get(), second.rule.get()), ("Query", "query"));
+        Ok(())
+    }
 }

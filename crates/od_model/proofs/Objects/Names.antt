@@ -10,11 +10,11 @@ use Rattle.od_model.specs.Object.Parts.{is_named, Distinct, session_of}
 use Rattle.od_model.specs.Object.Effects.{change, change_one}
 use Rattle.od_model.proofs.Lists.{Each-map, Each-weaker}
 
-or_from_left : (a b : Bool) → a ≡ true → (a || b) ≡ true
+pub or_from_left : (a b : Bool) → a ≡ true → (a || b) ≡ true
 or_from_left true b h = refl
 or_from_left false b h = absurd (cc)
 
-or_from_right : (a b : Bool) → b ≡ true → (a || b) ≡ true
+pub or_from_right : (a b : Bool) → b ≡ true → (a || b) ≡ true
 or_from_right true b h = refl
 or_from_right false b h = h
 
@@ -24,7 +24,7 @@ same-name a b h = (bytes_eq-Decides a b).0 h
 -- ## The session of a name is the only one
 
 -- behind one of the name there is none
-behind : (name : List ℕ) (seen xs : List SessionState) → list_any (is_named name) seen ≡ true → Each (λ p. list_any (is_named p.1.name) p.0 ≡ false) (points_after seen xs) → Each (λ t. is_named name t ≡ true → ⊥) xs
+pub behind : (name : List ℕ) (seen xs : List SessionState) → list_any (is_named name) seen ≡ true → Each (λ p. list_any (is_named p.1.name) p.0 ≡ false) (points_after seen xs) → Each (λ t. is_named name t ≡ true → ⊥) xs
 behind name seen [] h k = tt
 behind name seen (x ∷ xs) h k = (
   (λ same. let e : x.name ≡ name = same-name x.name name same in

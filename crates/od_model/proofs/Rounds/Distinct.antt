@@ -11,6 +11,7 @@ use Rattle.od_model.proofs.Matching.Sameness.{mention-Decides}
 pub is_among-append : (xs ys : List Mention) (m : Mention) → is_among (xs ++ ys) m ≡ (is_among xs m || is_among ys m)
 is_among-append xs ys m = list_any-append (same_mention m) xs ys
 
+-- a test or false
 or-false : (b : Bool) → (b || false) ≡ b
 or-false true = refl
 or-false false = refl
@@ -19,6 +20,7 @@ or-false false = refl
 among-same : (xs : List Mention) (m n : Mention) → same_mention m n ≡ true → is_among xs m ≡ is_among xs n
 among-same xs m n e = ap (is_among xs) ((mention-Decides m n).0 e)
 
+-- the same, where the tests are known
 added-among : (xs : List Mention) (x m : Mention) (b c : Bool) → is_among xs x ≡ b → same_mention m x ≡ c
     → is_among (cond b xs (xs ++ x ∷ [])) m ≡ (is_among xs m || (c || false))
 added-among xs x m true true e h = among-same xs m x h ∙ e ∙ sym (or_left (is_among xs m) true (among-same xs m x h ∙ e))
@@ -29,6 +31,7 @@ added-among xs x m false c e h = is_among-append xs (x ∷ []) m ∙ ap (λ z. i
 pub is_among-with_new : (xs : List Mention) (x m : Mention) → is_among (with_new xs x) m ≡ is_among (xs ++ x ∷ []) m
 is_among-with_new xs x m = added-among xs x m (is_among xs x) (same_mention m x) refl refl ∙ sym (is_among-append xs (x ∷ []) m)
 
+-- one after another
 among-folded : (seen xs : List Mention) (m : Mention) → is_among (fold with_new seen xs) m ≡ is_among (seen ++ xs) m
 among-folded seen [] m = sym (or-false (is_among seen m)) ∙ sym (is_among-append seen [] m)
 among-folded seen (x ∷ xs) m =

@@ -42,6 +42,7 @@ rules_in-query r text h = ap (λ b. cond (b && true) ((1, query_rule text) ∷ [
 abbrev pub query_items : List ℕ → List Doc → List Mention → List Item
 query_items text docs old = flat_map (items_at old (1, query_rule text)) (sites docs)
 
+-- a round of a query meets what its one rule gives
 items-query : (text : List ℕ) (docs : List Doc) (r : ℕ) (old : List Mention) → 1 ≤ r → items docs (query_grammar text) r old ≡ query_items text docs old
 items-query text docs r old h = ap (flat_map (λ rule. items_by docs old rule)) (rules_in-query r text h) ∙ append-nil (query_items text docs old)
 

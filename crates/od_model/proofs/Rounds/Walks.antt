@@ -34,6 +34,7 @@ round-walks docs g r old e = ap (walk docs g r) e
 pub walked-known : (old new : List Mention) (m : Mention) → is_among (old ++ new) m ≡ true → walked old (Found new) (one m) ≡ Found new
 walked-known old new m e = ap (λ b. cond b (Found new) (weighed old new m)) e
 
+-- a mention that is not there is weighed
 walked-fresh : (old new : List Mention) (m : Mention) → is_among (old ++ new) m ≡ false → walked old (Found new) (one m) ≡ weighed old new m
 walked-fresh old new m e = ap (λ b. cond b (Found new) (weighed old new m)) e
 
@@ -55,26 +56,31 @@ IsNew old (Found new) = fold with_new old new ≡ old ++ new
 IsNew old (Crowded rule document sentence count) = Unit {0}
 IsNew old (TooMany total) = Unit {0}
 
+-- one that is weighed
 new-weighed : (old new : List Mention) (m : Mention) (total : ℕ) (b : Bool) → is_among (old ++ new) m ≡ false → fold with_new old new ≡ old ++ new
     → IsNew old (cond b (TooMany total) (Found (new ++ m ∷ [])))
 new-weighed old new m total true e h = tt
 new-weighed old new m total false e h =
     fold-append with_new old new (m ∷ []) ∙ ap (λ l. with_new l m) h ∙ ap (λ b. cond b (old ++ new) ((old ++ new) ++ m ∷ [])) e ∙ append_assoc old new (m ∷ [])
 
+-- one mention more
 new-one : (old new : List Mention) (m : Mention) (b : Bool) → is_among (old ++ new) m ≡ b → fold with_new old new ≡ old ++ new → IsNew old (cond b (Found new) (weighed old new m))
 new-one old new m true e h = h
 new-one old new m false e h = new-weighed old new m (weight (old ++ (new ++ m ∷ []))) (nat_lt most_weight (weight (old ++ (new ++ m ∷ [])))) e h
 
+-- one item more
 new-walked : (old : List Mention) (r : RoundResult) (x : Item) → IsNew old r → IsNew old (walked old r x)
 new-walked old (Found new) (one m) h = new-one old new m (is_among (old ++ new) m) refl h
 new-walked old (Found new) (crowd rule document sentence count) h = tt
 new-walked old (Crowded rule document sentence count) x h = tt
 new-walked old (TooMany total) x h = tt
 
+-- all items
 new-all : (old : List Mention) (r : RoundResult) (xs : List Item) → IsNew old r → IsNew old (fold (walked old) r xs)
 new-all old r [] h = h
 new-all old r (x ∷ xs) h = new-all old (walked old r x) xs (new-walked old r x h)
 
+-- a whole round
 round-new : (docs : List Doc) (g : Grammar) (r : ℕ) (old : List Mention) → IsNew (distinct old) (round docs g r old)
 unfolding round
 round-new docs g r old = new-all (distinct old) (Found []) (items docs g r (distinct old)) (sym (append-nil (distinct old)))

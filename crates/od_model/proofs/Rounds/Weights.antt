@@ -31,25 +31,30 @@ IsLight old (Found new) = weight (old ++ new) ≤ most_weight
 IsLight old (Crowded rule document sentence count) = Unit {0}
 IsLight old (TooMany total) = Unit {0}
 
+-- one that is weighed
 light-weighed : (old new : List Mention) (m : Mention) (b : Bool) → nat_lt most_weight (weight (old ++ (new ++ m ∷ []))) ≡ b
     → IsLight old (cond b (TooMany (weight (old ++ (new ++ m ∷ [])))) (Found (new ++ m ∷ [])))
 light-weighed old new m true e = tt
 light-weighed old new m false e = ltb-false most_weight (weight (old ++ (new ++ m ∷ []))) e
 
+-- one mention more
 light-one : (old new : List Mention) (m : Mention) (b : Bool) → IsLight old (Found new) → IsLight old (cond b (Found new) (weighed old new m))
 light-one old new m true h = h
 light-one old new m false h = light-weighed old new m (nat_lt most_weight (weight (old ++ (new ++ m ∷ [])))) refl
 
+-- one item more
 light-walked : (old : List Mention) (r : RoundResult) (x : Item) → IsLight old r → IsLight old (walked old r x)
 light-walked old (Found new) (one m) h = light-one old new m (is_among (old ++ new) m) h
 light-walked old (Found new) (crowd rule document sentence count) h = tt
 light-walked old (Crowded rule document sentence count) x h = tt
 light-walked old (TooMany total) x h = tt
 
+-- all items
 light-all : (old : List Mention) (r : RoundResult) (xs : List Item) → IsLight old r → IsLight old (fold (walked old) r xs)
 light-all old r [] h = h
 light-all old r (x ∷ xs) h = light-all old (walked old r x) xs (light-walked old r x h)
 
+-- a whole round
 round-light : (docs : List Doc) (g : Grammar) (r : ℕ) (old : List Mention) → distinct old ≡ old → weight old ≤ most_weight → IsLight old (round docs g r old)
 unfolding round
 round-light docs g r old d h =

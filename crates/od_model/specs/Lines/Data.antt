@@ -7,6 +7,7 @@ use Rattle.serde_json.specs.Written.{compact_text}
 abbrev pub count : ℕ → Data
 count n = number (unsigned n)
 
+-- a text
 abbrev pub word : List ℕ → Data
 word text = string text
 

@@ -1,12 +1,11 @@
 use crate::lines::{entry_line, session_lines};
+use od_conllu::{ReadDocFault, read_doc};
 use od_model::conllu::ConlluKind;
 use od_model::doc::Doc;
 use od_model::history::{Command, Entry, Phase, Refusal, Reply};
 use od_model::list::List;
 use od_model::mention::{Mention, Part};
-use od_model::sentence::Sentence;
 use od_model::text::{Bytes, NoMemory, Text};
-use od_model::token::Token;
 use std::alloc::Global;
 use std::process::Abort;
 use std::test::Fail;
@@ -30,34 +29,11 @@ fn assert_line(
     Ok(())
 }
 
-fn token(alloc: Global, word: &str) -> Result<Token, NoMemory> {
-    Ok(Token {
-        word: Text::from_str(alloc, word)?,
-        norm: Text::from_str(alloc, word)?,
-        lemma: None,
-        upos: None,
-        tag: None,
-        entity: None,
-        chunk: None,
-    })
-}
-
 // One sentence, `The Dogs bark`.
-fn document(alloc: Global) -> Result<Doc, NoMemory> {
-    let mut tokens = List::new(alloc);
-    tokens.push(token(alloc, "The")?)?;
-    tokens.push(token(alloc, "Dogs")?)?;
-    tokens.push(token(alloc, "bark")?)?;
-    let mut sentences = List::new(alloc);
-    sentences.push(Sentence {
-        tokens,
-        edges: List::new(alloc),
-    })?;
-    Ok(Doc {
-        name: Text::from_str(alloc, "d1")?,
-        size: 9,
-        sentences,
-    })
+fn document(alloc: Global) -> Result<Doc, ReadDocFault> {
+    let text =
+        "1\tThe\t_\t_\t_\t_\t_\t_\t_\t_\n2\tDogs\t_\t_\t_\t_\t_\t_\t_\t_\n3\tbark\t_\t_\t_\t_\t_\t_\t_\t_\n";
+    read_doc(alloc, "d1", text.as_bytes())
 }
 
 fn mention(alloc: Global, start: u32, parts: List<Part>) -> Result<Mention, NoMemory> {

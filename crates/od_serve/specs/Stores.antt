@@ -1,0 +1,5 @@
+pub mod Heads
+pub mod Kept
+pub mod Names
+pub mod Sessions
+pub mod Steps

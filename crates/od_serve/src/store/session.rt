@@ -1,0 +1,222 @@
+//! A session that runs.
+ghost use Rattle.std.specs.Prelude.{◌≡◌, ◌<◌, ◌≤◌, List as Seq, [], ◌∷◌, ◌++◌, length, MatchResult, IfOk, OnOk, OnErr, Ok, Err, Some};
+ghost use Rattle.od_model.specs.declared.doc.Doc.{Doc as Document};
+ghost use Rattle.od_model.specs.declared.mention.RoundResult.TheVariants.{Found};
+ghost use Rattle.od_model.specs.declared.history.Phase.TheVariants.{Going};
+ghost use Rattle.od_model.specs.declared.history.Reply.TheVariants.{Resumed};
+ghost use Rattle.od_model.specs.Grammars.Query.{grammar_of, query_grammar};
+ghost use Rattle.od_model.specs.Rounds.Round.{joined};
+ghost use Rattle.od_model.specs.Object.Parts.{phase_with, round_at};
+ghost use Rattle.od_model.specs.Object.Effects.{taken_by, let_go};
+ghost use Rattle.od_model.specs.Object.Replies.{held_as, reply_print, reply_round};
+ghost use Rattle.od_serve.specs.Stores.Steps.{step_reply, after_step};
+
+use crate::known::Known;
+use crate::query::query_words;
+use crate::round::{next_round, phase_after, phase_of, weigh};
+use od_model::doc::Doc;
+use od_model::grammar::Head;
+use od_model::history::{Phase, Refusal, Reply};
+use od_model::list::List;
+use od_model::mention::{Mention, RoundResult};
+use od_model::object::SessionState;
+use od_model::text::{Copied, NoMemory, Text};
+use std::alloc::Global;
+use std::marker::Model;
+
+/// A session with the words of its query, folded, and notes of its mentions, their number and their weight.
+#[derive(Drop)]
+pub struct Session {
+    state: SessionState,
+    words: List<Text>,
+    known: Known,
+    mentions: u32,
+    weight: u64,
+}
+
+impl Model for Session {
+    ghost use Rattle.od_model.specs.declared.object.SessionState.{SessionState};
+    ghost use Rattle.od_serve.specs.Stores.Sessions.{IsRunning};
+
+    ghost Value = { SessionState };
+
+    ghost view = { λ s. s.state };
+
+    ghost invariant = { λ s. IsRunning s.state s.words s.known s.mentions s.weight };
+}
+
+impl Session {
+    /// A session of a query that the caller holds, over the first documents, with no round yet.
+    pub fn open(
+        alloc: Global,
+        name: &Text,
+        head: &Head,
+        documents: u32,
+        limit: u32,
+        caller: u32,
+    ) -> Result<Session, NoMemory>
+        requires query { grammar_of head.now.kind head.now.text ≡ Some (query_grammar head.now.text) }
+        requires limited { limit ≤ 100 }
+        ensures { IfOk result (λ session. session ≡ record { name = name.now; kind = head.now.kind; text = head.now.text; documents = documents; limit = limit; rounds = []; holder = Some caller }) }
+    {
+        let state = SessionState {
+            name: name.copy(alloc)?,
+            kind: head.kind,
+            text: head.text.copy(alloc)?,
+            documents,
+            limit,
+            rounds: List::new(alloc),
+            holder: Some(caller),
+        };
+        Ok(Session {
+            state,
+            words: query_words(alloc, head.text.get())?,
+            known: Known::new(alloc),
+            mentions: 0,
+            weight: 0,
+        })
+    }
+
+    /// The session's state, for reading.
+    pub fn state(&self) -> &SessionState
+        ensures { result.now ≡ self.now }
+    {
+        &self.state
+    }
+
+    /// Whether the caller holds the session, or why not.
+    pub fn held(&self, caller: u32) -> Result<(), Refusal>
+        ensures { MatchResult result (λ _. held_as caller self.now self.now.holder ≡ Ok self.now) (λ refusal. held_as caller self.now self.now.holder ≡ Err refusal) }
+    {
+        match self.state.holder {
+            None => Err(Refusal::NotHeld),
+            Some(owner) => {
+                if owner == caller {
+                    Ok(())
+                } else {
+                    Err(Refusal::Busy { owner })
+                }
+            }
+        }
+    }
+
+    /// Whether the rounds go on.
+    pub fn phase(&self) -> Phase
+        ensures { result ≡ phase_with self.now self.now.rounds }
+    {
+        phase_of(&self.state)
+    }
+
+    /// The number of rounds.
+    fn round(&self) -> u32
+        ensures { result ≡ length self.now.rounds }
+    {
+        self.state.rounds.len() as u32
+    }
+
+    /// The answer to a print by the holder.
+    pub fn printed(&self) -> Reply
+        ensures { result ≡ reply_print (Ok self.now) }
+    {
+        Reply::Printed {
+            round: self.round(),
+            mentions: self.mentions,
+            phase: self.phase(),
+        }
+    }
+
+    /// The answer to a resume that was taken.
+    pub fn resumed(&self) -> Reply
+        ensures { result ≡ Resumed self.now.documents self.now.limit (length self.now.rounds) (length (joined self.now.rounds)) (phase_with self.now self.now.rounds) }
+    {
+        Reply::Resumed {
+            documents: self.state.documents,
+            limit: self.state.limit,
+            round: self.round(),
+            mentions: self.mentions,
+            phase: self.phase(),
+        }
+    }
+
+    /// One round more, where the rounds go on. Where it is refused, or memory is, the session stays as it was.
+    pub fn step(&mut self, alloc: Global, docs: &[Doc]) -> Result<Reply, NoMemory>
+        ensures replies { IfOk result (λ reply. reply ≡ step_reply docs.now self.old) }
+        ensures effect { IfOk result (λ reply. self.new ≡ after_step docs.now self.old reply) }
+        ensures err { OnErr result (self.new ≡ self.old) }
+    {
+        let round = self.round();
+        match self.phase() {
+            Phase::Finished => return Ok(Reply::Refused(Refusal::Finished { round })),
+            Phase::AtLimit => return Ok(Reply::Refused(Refusal::AtLimit { round })),
+            Phase::Going => {}
+        }
+        match self.next_round(alloc, docs)? {
+            RoundResult::Crowded {
+                rule,
+                document,
+                sentence,
+                count,
+            } => Ok(Reply::Refused(Refusal::Crowded {
+                rule,
+                document,
+                sentence,
+                count,
+            })),
+            RoundResult::TooMany { weight } => Ok(Reply::Refused(Refusal::TooMany { weight })),
+            RoundResult::Found(new) => self.add_round(alloc, new),
+        }
+    }
+
+    /// What the next round gives.
+    fn next_round(&self, alloc: Global, docs: &[Doc]) -> Result<RoundResult, NoMemory>
+        ensures { IfOk result (λ r. r ≡ round_at docs.now self.now) }
+    {
+        next_round(
+            alloc,
+            docs,
+            &self.state,
+            self.words.get(),
+            &self.known,
+            self.weight,
+        )
+    }
+
+    /// Adds what the next round found, and answers so.
+    fn add_round(&mut self, alloc: Global, new: List<Mention>) -> Result<Reply, NoMemory>
+        requires found { (docs : Seq Document) × (round_at docs self.old ≡ Found new) }
+        requires going { phase_with self.old self.old.rounds ≡ Going }
+        ensures replies { IfOk result (λ reply. reply ≡ reply_round self.old (Found new)) }
+        ensures effect { OnOk result (self.new ≡ record self.old { rounds = self.old.rounds ++ new ∷ [] }) }
+        ensures err { OnErr result (self.new ≡ self.old) }
+    {
+        let round = self.state.rounds.len() as u32 + 1;
+        let added = new.len() as u32;
+        let reply = Reply::Stepped {
+            round,
+            added,
+            phase: phase_after(&self.state, new.get()),
+        };
+        let mentions = self.mentions + added;
+        let weight = self.weight + weigh(new.get());
+        self.known
+            .extend(alloc, self.state.rounds.get(), new.get())?;
+        self.state.rounds.push(new)?;
+        self.mentions = mentions;
+        self.weight = weight;
+        Ok(reply)
+    }
+
+    /// The caller holds the session from now on.
+    pub fn take(&mut self, caller: u32)
+        ensures { self.new ≡ taken_by caller self.old }
+    {
+        self.state.holder = Some(caller);
+    }
+
+    /// Nobody holds the session from now on.
+    pub fn let_go(&mut self)
+        ensures { self.new ≡ let_go self.old }
+    {
+        self.state.holder = None;
+    }
+}
