@@ -3,10 +3,11 @@ ghost use Rattle.std.specs.Prelude.{◌≡◌};
 
 use crate::names::Names;
 use heads::{head_of, is_known};
+use od_conllu::{ReadDocFault, read_doc};
 use od_model::conllu::ConlluFault;
 use od_model::doc::Doc;
 use od_model::grammar::Head;
-use od_model::history::{Refusal, Reply};
+use od_model::history::{Command, Refusal, Reply};
 use od_model::list::List;
 use od_model::mention::Mention;
 use od_model::text::{Bytes, NoMemory, Text};
@@ -73,6 +74,34 @@ impl Store {
         ensures { result.now ≡ self.now.docs }
     {
         &self.docs
+    }
+
+    /// Answers a command of a caller. A refused command changes nothing, and neither does one for which memory is refused.
+    pub fn answer(
+        &mut self,
+        alloc: Global,
+        heads: &[Head],
+        caller: u32,
+        command: &Command,
+    ) -> Result<Reply, NoMemory>
+        requires accepted { Each IsQueryHead heads.now }
+        ensures replies { IfOk result (λ reply. Replies heads.now self.old caller command.now reply) }
+        ensures effect { IfOk result (λ reply. self.new ≡ effect_of heads.now self.old caller command.now reply) }
+        ensures err { OnErr result (self.new ≡ self.old) }
+    {
+        match command {
+            Command::AddDoc { name, body } => self.answer_doc(alloc, name, body),
+            Command::OpenSession {
+                name,
+                grammar,
+                limit,
+            } => self.answer_open(alloc, heads, caller, name, grammar, *limit),
+            Command::Step { name } => self.answer_step(alloc, caller, name),
+            Command::Resume { name } => Ok(self.answer_resume(heads, caller, name)),
+            Command::Print { name } => Ok(self.answer_print(caller, name)),
+            Command::Release { name } => Ok(self.answer_release(caller, name)),
+            Command::Settle => self.answer_settle(alloc),
+        }
     }
 
     /// Whether a document of the name is committed.
@@ -293,6 +322,25 @@ impl Store {
         let documents = self.docs.len() as u32 + 1;
         self.add_doc(alloc, doc)?;
         Ok(Reply::Added { documents })
+    }
+
+    /// The document that the bytes are, which is committed afterwards.
+    fn answer_doc(
+        &mut self,
+        alloc: Global,
+        name: &Text,
+        body: &Bytes,
+    ) -> Result<Reply, NoMemory>
+        ensures replies { IfOk result (λ reply. reply ≡ reply_doc self.old name.now body.now) }
+        ensures effect { IfOk result (λ reply. (heads : Seq Headed) (caller : ℕ) → self.new ≡ effect_of heads self.old caller (AsksAdd name.now body.now) reply) }
+        ensures err { OnErr result (self.new ≡ self.old) }
+    {
+        let read = match read_doc(alloc, name.get(), body.get()) {
+            Ok(doc) => Ok(doc),
+            Err(ReadDocFault::Bad(fault)) => Err(fault),
+            Err(ReadDocFault::NoMemory) => return Err(NoMemory),
+        };
+        self.answer_read(alloc, name, body, read)
     }
 
     /// All sentences in one segment, or no segment where there is none.
