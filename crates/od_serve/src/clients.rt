@@ -4,7 +4,7 @@ ghost use Rattle.od_io.specs.Streams.Count.{Rose};
 ghost use Rattle.od_model.specs.declared.script.Order.{Order as SpecOrder};
 ghost use Rattle.od_model.specs.Lists.{Each};
 ghost use Rattle.od_model.specs.History.Orders.{Follows, Begins};
-ghost use Rattle.od_model.specs.History.Prints.{IsAccepted};
+ghost use Rattle.od_model.specs.Script.Runnable.{IsQuery};
 ghost use Rattle.od_model.specs.Run.Clients.{EachClient, OfClients};
 ghost use Rattle.od_serve.specs.Running.Told.{IsTold, IsReached, EndsAt};
 
@@ -16,15 +16,15 @@ use od_model::history::Entry;
 use od_model::list::List;
 use od_model::script::Order;
 
-use crate::machine::Machine;
 use crate::run::{Stop, run_client};
+use crate::store::Store;
 
 /// Follows each client's orders, the first client being caller 1, to their end or until a command cannot be answered.
-pub fn run_clients<M: Machine, W: Sink>(alloc: Global, heads: &[Head], object: &mut M, history: &mut Vec<Entry>, sink: &mut W, clients: List<List<Order>>) -> Result<(), Stop>
+pub fn run_clients<W: Sink>(alloc: Global, heads: &[Head], store: &mut Store, history: &mut Vec<Entry>, sink: &mut W, clients: List<List<Order>>) -> Result<(), Stop>
     ghost before: { Option (Seq ℕ) }
-    requires accepted { Each IsAccepted heads.now }
+    requires accepted { Each IsQuery heads.now }
     requires empty { history.old.items ≡ [] }
-    requires reached { IsReached heads.now history.old.items (M.state object.old) before (W.written sink.old) }
+    requires reached { IsReached heads.now history.old.items store.old before (W.written sink.old) }
     requires few { length clients ≤ 8 }
     requires short { Each (λ (orders : Seq SpecOrder). length orders ≤ 10000) clients }
     ensures told { OnOk result (IsTold heads.now history.new.items before (W.written sink.new)) }
@@ -37,7 +37,7 @@ pub fn run_clients<M: Machine, W: Sink>(alloc: Global, heads: &[Head], object: &
 {
     let mut caller: u32 = 1;
     'clients: for orders in clients.into_vec() {
-        match run_client(alloc, heads, object, history, sink, caller, orders) {
+        match run_client(alloc, heads, store, history, sink, caller, orders) {
             Ok(()) => caller += 1,
             Err(stop) => return Err(stop),
         }

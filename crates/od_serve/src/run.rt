@@ -5,7 +5,7 @@ ghost use Rattle.od_model.specs.Lists.{Each};
 ghost use Rattle.od_model.specs.Object.Parts.{nothing};
 ghost use Rattle.od_model.specs.History.Legal.{mine};
 ghost use Rattle.od_model.specs.History.Orders.{GoesOn, Follows, Begins};
-ghost use Rattle.od_model.specs.History.Prints.{IsAccepted};
+ghost use Rattle.od_model.specs.Script.Runnable.{IsQuery};
 ghost use Rattle.od_serve.specs.Running.Told.{IsTold, IsReached, EndsAt, OneMore, AtMostOne, GoesFurther};
 ghost use Rattle.od_model.specs.declared.script.Order.TheVariants.{Run};
 
@@ -16,9 +16,11 @@ use od_model::grammar::Head;
 use od_model::history::{Command, Entry, Phase, Reply};
 use od_model::list::List;
 use od_model::script::Order;
-use od_model::text::{Copied, NoMemory, Text};
+use od_model::text::{Copied, Text};
 
-use crate::machine::Machine;
+use crate::shown::entry_lines;
+use crate::store::Store;
+
 
 /// Why a run ended before all commands were answered.
 #[derive(Clone, Copy, Debug, PartialEq, Eq)]
@@ -38,22 +40,19 @@ fn goes_on(reply: &Reply) -> bool
 }
 
 /// Answers one command, and writes its lines. Gives whether a run goes on after the reply.
-fn tell<M: Machine, W: Sink>(alloc: Global, heads: &[Head], object: &mut M, history: &mut Vec<Entry>, sink: &mut W, caller: u32, call: u32, command: Command) -> Result<bool, Stop>
+fn tell<W: Sink>(alloc: Global, heads: &[Head], store: &mut Store, history: &mut Vec<Entry>, sink: &mut W, caller: u32, call: u32, command: Command) -> Result<bool, Stop>
     ghost before: { Option (Seq ℕ) }
-    requires accepted { Each IsAccepted heads.now }
-    requires reached { IsReached heads.now history.old.items (M.state object.old) before (W.written sink.old) }
+    requires accepted { Each IsQuery heads.now }
+    requires reached { IsReached heads.now history.old.items store.old before (W.written sink.old) }
     requires call { call ≡ length (mine caller history.old.items) + 1 }
-    ensures reached { OnOk result (IsReached heads.now history.new.items (M.state object.new) before (W.written sink.new)) }
+    ensures reached { OnOk result (IsReached heads.now history.new.items store.new before (W.written sink.new)) }
     ensures entry { IfOk result (λ goes. (e : Entry) × OneMore caller command history.old.items history.new.items e × (IsTrue goes ↔ GoesOn e.reply)) }
     ensures ends { IfErr result (λ stop. EndsAt heads.now history.new.items before (W.written sink.new) stop) }
     ensures part { OnErr result (AtMostOne caller command history.old.items history.new.items) }
     ensures failed { IsErrOf result Stop.WriteFault → Rose (W.faults sink.old) (W.faults sink.new) }
     ensures later { W.faults sink.old ≤ W.faults sink.new }
 {
-    let Ok(()) = history.reserve(1) else {
-        return Err(Stop::NoMemory);
-    };
-    let Ok(reply) = object.answer(alloc, heads, caller, &command) else {
+    let Ok(reply) = store.answer(alloc, heads, caller, &command) else {
         return Err(Stop::NoMemory);
     };
     let goes = goes_on(&reply);
@@ -63,7 +62,7 @@ fn tell<M: Machine, W: Sink>(alloc: Global, heads: &[Head], object: &mut M, hist
         command,
         reply,
     };
-    let Ok(lines) = object.lines(alloc, heads, caller, &entry) else {
+    let Ok(lines) = entry_lines(alloc, store, &entry) else {
         return Err(Stop::NoMemory);
     };
     let Ok(()) = history.push(entry) else {
@@ -76,13 +75,13 @@ fn tell<M: Machine, W: Sink>(alloc: Global, heads: &[Head], object: &mut M, hist
 }
 
 /// Steps a session until a reply that ends the run. Gives the number of the caller's next call.
-fn run_steps<M: Machine, W: Sink>(alloc: Global, heads: &[Head], object: &mut M, history: &mut Vec<Entry>, sink: &mut W, caller: u32, call: u32, name: &Text) -> Result<u32, Stop>
+fn run_steps<W: Sink>(alloc: Global, heads: &[Head], store: &mut Store, history: &mut Vec<Entry>, sink: &mut W, caller: u32, call: u32, name: &Text) -> Result<u32, Stop>
     ghost before: { Option (Seq ℕ) }
-    requires accepted { Each IsAccepted heads.now }
-    requires reached { IsReached heads.now history.old.items (M.state object.old) before (W.written sink.old) }
+    requires accepted { Each IsQuery heads.now }
+    requires reached { IsReached heads.now history.old.items store.old before (W.written sink.old) }
     requires call { call ≡ length (mine caller history.old.items) + 1 }
     requires room { call + 101 < 2 ^ 32 }
-    ensures reached { OnOk result (IsReached heads.now history.new.items (M.state object.new) before (W.written sink.new)) }
+    ensures reached { OnOk result (IsReached heads.now history.new.items store.new before (W.written sink.new)) }
     ensures call { IfOk result (λ next. next ≡ length (mine caller history.new.items) + 1) }
     ensures few { IfOk result (λ next. next ≤ call + 101) }
     ensures followed { OnOk result (GoesFurther Follows caller (Run name.now ∷ []) history.old.items history.new.items) }
@@ -97,7 +96,7 @@ fn run_steps<M: Machine, W: Sink>(alloc: Global, heads: &[Head], object: &mut M,
             return Err(Stop::NoMemory);
         };
         let command = Command::Step { name: session };
-        match tell(alloc, heads, object, history, sink, caller, call + steps, command) {
+        match tell(alloc, heads, store, history, sink, caller, call + steps, command) {
             Ok(true) => steps += 1,
             Ok(false) => return Ok(call + steps + 1),
             Err(stop) => return Err(stop),
@@ -106,13 +105,13 @@ fn run_steps<M: Machine, W: Sink>(alloc: Global, heads: &[Head], object: &mut M,
 }
 
 /// Follows one order. Gives the number of the caller's next call.
-fn follow<M: Machine, W: Sink>(alloc: Global, heads: &[Head], object: &mut M, history: &mut Vec<Entry>, sink: &mut W, caller: u32, call: u32, order: Order) -> Result<u32, Stop>
+fn follow<W: Sink>(alloc: Global, heads: &[Head], store: &mut Store, history: &mut Vec<Entry>, sink: &mut W, caller: u32, call: u32, order: Order) -> Result<u32, Stop>
     ghost before: { Option (Seq ℕ) }
-    requires accepted { Each IsAccepted heads.now }
-    requires reached { IsReached heads.now history.old.items (M.state object.old) before (W.written sink.old) }
+    requires accepted { Each IsQuery heads.now }
+    requires reached { IsReached heads.now history.old.items store.old before (W.written sink.old) }
     requires call { call ≡ length (mine caller history.old.items) + 1 }
     requires room { call + 101 < 2 ^ 32 }
-    ensures reached { OnOk result (IsReached heads.now history.new.items (M.state object.new) before (W.written sink.new)) }
+    ensures reached { OnOk result (IsReached heads.now history.new.items store.new before (W.written sink.new)) }
     ensures call { IfOk result (λ next. next ≡ length (mine caller history.new.items) + 1) }
     ensures few { IfOk result (λ next. next ≤ call + 101) }
     ensures followed { OnOk result (GoesFurther Follows caller (order ∷ []) history.old.items history.new.items) }
@@ -122,22 +121,22 @@ fn follow<M: Machine, W: Sink>(alloc: Global, heads: &[Head], object: &mut M, hi
     ensures later { W.faults sink.old ≤ W.faults sink.new }
 {
     match order {
-        Order::One(command) => match tell(alloc, heads, object, history, sink, caller, call, command) {
+        Order::One(command) => match tell(alloc, heads, store, history, sink, caller, call, command) {
             Ok(_) => Ok(call + 1),
             Err(stop) => Err(stop),
         },
-        Order::Run(name) => run_steps(alloc, heads, object, history, sink, caller, call, &name),
+        Order::Run(name) => run_steps(alloc, heads, store, history, sink, caller, call, &name),
     }
 }
 
 /// Follows a client's orders to their end, or until one cannot be answered.
-pub fn run_client<M: Machine, W: Sink>(alloc: Global, heads: &[Head], object: &mut M, history: &mut Vec<Entry>, sink: &mut W, caller: u32, orders: List<Order>) -> Result<(), Stop>
+pub fn run_client<W: Sink>(alloc: Global, heads: &[Head], store: &mut Store, history: &mut Vec<Entry>, sink: &mut W, caller: u32, orders: List<Order>) -> Result<(), Stop>
     ghost before: { Option (Seq ℕ) }
-    requires accepted { Each IsAccepted heads.now }
-    requires reached { IsReached heads.now history.old.items (M.state object.old) before (W.written sink.old) }
+    requires accepted { Each IsQuery heads.now }
+    requires reached { IsReached heads.now history.old.items store.old before (W.written sink.old) }
     requires fresh { mine caller history.old.items ≡ [] }
     requires few { length orders ≤ 10000 }
-    ensures reached { OnOk result (IsReached heads.now history.new.items (M.state object.new) before (W.written sink.new)) }
+    ensures reached { OnOk result (IsReached heads.now history.new.items store.new before (W.written sink.new)) }
     ensures followed { OnOk result (GoesFurther Follows caller orders history.old.items history.new.items) }
     ensures ends { IfErr result (λ stop. EndsAt heads.now history.new.items before (W.written sink.new) stop) }
     ensures begun { OnErr result (GoesFurther Begins caller orders history.old.items history.new.items) }
@@ -146,7 +145,7 @@ pub fn run_client<M: Machine, W: Sink>(alloc: Global, heads: &[Head], object: &m
 {
     let mut call: u32 = 1;
     'orders: for order in orders.into_vec() {
-        match follow(alloc, heads, object, history, sink, caller, call, order) {
+        match follow(alloc, heads, store, history, sink, caller, call, order) {
             Ok(next) => call = next,
             Err(stop) => return Err(stop),
         }

@@ -2,7 +2,6 @@
 ghost use Rattle.std.specs.Prelude.{◌≡◌, ◌↔◌, ◌⊎◌, ℕ, ◌<◌, ◌≤◌, List as Seq, [], length, map, string_bytes, Option, IsTrue};
 ghost use Rattle.std.specs.Io.KnownBytes.{Appends, IsAtEnd};
 ghost use Rattle.od_io.specs.Streams.Count.{Rose};
-ghost use Rattle.od_model.specs.Object.Parts.{nothing};
 ghost use Rattle.od_model.specs.Run.Clients.{has_refusal};
 ghost use Rattle.od_model.specs.Run.Outcome.{Outcome, RunOutcome, IsNoScript, RunsScript};
 ghost use Rattle.od_model.specs.Run.Words.{is_serve, exit_status, diagnostic};
@@ -17,9 +16,9 @@ use od_model::script::Script;
 use od_model::status::Status;
 
 use crate::clients::run_clients;
-use crate::machine::Machine;
 use crate::run::Stop;
 use crate::script::{ScriptFault, read_script};
+use crate::store::Store;
 
 /// The most bytes that a script may have: 64 MiB.
 const MOST_BYTES: usize = 67108864;
@@ -54,8 +53,7 @@ fn has_refusal(history: &[Entry]) -> bool
 }
 
 /// Runs a script's clients one after another, over no document and no session.
-fn run_script<M: Machine + Drop, W: Sink>(alloc: Global, object: M, script: Script, sink: &mut W, history: &mut Vec<Entry>) -> Status
-    requires object { M.state object ≡ nothing }
+fn run_script<W: Sink>(alloc: Global, script: Script, sink: &mut W, history: &mut Vec<Entry>) -> Status
     requires runnable { IsRunnable script }
     requires empty { history.old.items ≡ [] }
     ensures outcome { RunOutcome result script history.new.items (W.written sink.old) (W.written sink.new) }
@@ -63,8 +61,8 @@ fn run_script<M: Machine + Drop, W: Sink>(alloc: Global, object: M, script: Scri
     ensures later { W.faults sink.old ≤ W.faults sink.new }
 {
     let Script { heads, clients } = script;
-    let mut object = object;
-    match run_clients(alloc, heads.get(), &mut object, history, sink, clients) {
+    let mut store = Store::new(alloc);
+    match run_clients(alloc, heads.get(), &mut store, history, sink, clients) {
         Ok(()) => {
             if has_refusal(history) {
                 Status::Refused
@@ -78,8 +76,7 @@ fn run_script<M: Machine + Drop, W: Sink>(alloc: Global, object: M, script: Scri
 }
 
 /// Reads the source to its end, and the script in its bytes, and runs it.
-fn serve<M: Machine + Drop, S: Source, W: Sink>(alloc: Global, object: M, source: &mut S, sink: &mut W, history: &mut Vec<Entry>) -> Status
-    requires object { M.state object ≡ nothing }
+fn serve<S: Source, W: Sink>(alloc: Global, source: &mut S, sink: &mut W, history: &mut Vec<Entry>) -> Status
     requires empty { history.old.items ≡ [] }
     ensures outcome { Outcome result history.new.items (S.left source.old) (W.written sink.old) (W.written sink.new) }
     ensures not_usage { result ≡ Status.Usage → ⊥ }
@@ -97,7 +94,7 @@ fn serve<M: Machine + Drop, S: Source, W: Sink>(alloc: Global, object: M, source
         Err(ReadAll::NoMemory) => return Status::NoMemory,
     };
     match read_script(alloc, bytes.get()) {
-        Ok(script) => run_script(alloc, object, script, sink, history),
+        Ok(script) => run_script(alloc, script, sink, history),
         Err(ScriptFault::Later) => Status::NoScript,
         Err(ScriptFault::NoMemory) => Status::NoMemory,
     }

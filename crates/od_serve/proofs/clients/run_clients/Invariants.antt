@@ -11,7 +11,7 @@ ghost-run_client g a = g.before
 -- the clients so far were followed to their end
 abbrev pub invariant-clients : goal.invariant-clients
 invariant-clients g l = record {
-  reached : IsReached l.heads l.history.items (g.M.Machine.state l.object) g.before (g.W.Sink.written l.sink);
+  reached : IsReached l.heads l.history.items l.store g.before (g.W.Sink.written l.sink);
   caller : l.caller ≡ length l.yielded + 1;
   callers : CallersTo (length l.yielded) l.history.items;
   follows : EachFrom Follows 0 l.yielded l.history.items;

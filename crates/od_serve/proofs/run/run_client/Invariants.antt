@@ -10,7 +10,7 @@ ghost-follow g a = g.before
 -- the orders so far were followed, each by at most 101 entries
 abbrev pub invariant-orders : goal.invariant-orders
 invariant-orders g l = record {
-  reached : IsReached l.heads l.history.items (g.M.Machine.state l.object) g.before (g.W.Sink.written l.sink);
+  reached : IsReached l.heads l.history.items l.store g.before (g.W.Sink.written l.sink);
   call : l.call ≡ length (mine l.caller l.history.items) + 1;
   few : l.call ≤ 101 * length l.yielded + 1;
   followed : GoesFurther Follows l.caller l.yielded l.fn.history.items l.history.items;

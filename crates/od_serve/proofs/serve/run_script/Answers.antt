@@ -15,7 +15,7 @@ pub run_clients-requires : goal.run_clients-requires
 run_clients-requires g c κs within =
     let accepted = subst (λ (hs : List Head). Each IsAccepted hs) (sym c.get.ensures) (accepted-of c.args.script.heads c.requires.runnable.queries) in
     (within.0, (within.1, (accepted, (c.requires.empty,
-        (reached-start c.get.result.now c.args.history.now.items (g.M.Machine.state c.args.object) (g.W.Sink.written c.args.sink.now) c.requires.empty c.requires.object,
+        (reached-start c.get.result.now c.args.history.now.items c.args.store (g.W.Sink.written c.args.sink.now) c.requires.empty c.requires.object,
         (c.requires.runnable.few, c.requires.runnable.short))))))
 
 pub returns-then-has_refusal-clause-outcome : goal.returns-then-has_refusal-clause-outcome
