@@ -1,12 +1,12 @@
 //! The top call: words, a source and two sinks in, a status and the history out.
-ghost use Rattle.std.specs.Prelude.{◌≡◌, ◌↔◌, ◌⊎◌, ℕ, ◌<◌, ◌≤◌, List as Seq, [], length, map, string_bytes, Option, IsTrue};
+ghost use Rattle.std.specs.Prelude.{◌≡◌, ◌↔◌, ◌⊎◌, Bool, true, false, ℕ, ◌<◌, ◌≤◌, List as Seq, [], length, map, string_bytes, Option, IsTrue};
 ghost use Rattle.std.specs.Io.KnownBytes.{Appends, IsAtEnd};
 ghost use Rattle.od_io.specs.Streams.Count.{Rose};
 ghost use Rattle.od_model.specs.Run.Clients.{has_refusal};
 ghost use Rattle.od_model.specs.Run.Outcome.{Outcome, RunOutcome, IsNoScript, RunsScript};
 ghost use Rattle.od_model.specs.Run.Words.{is_serve, exit_status, diagnostic};
 ghost use Rattle.od_model.specs.Script.Runnable.{IsRunnable};
-ghost use Rattle.od_serve.specs.Running.Ends.{Answered, CanEndSo, Warns};
+ghost use Rattle.od_serve.specs.Running.Ends.{Answered, CanEndSo, EndsWith, Warns};
 
 use std::alloc::Global;
 
@@ -140,5 +140,54 @@ fn warn<E: Sink>(diag: &mut E, status: Status)
         _ => {
             let _ = write_whole(diag, diagnostic(status).as_bytes());
         }
+    }
+}
+
+/// Runs the program: `serve` reads a script from the source, answers its commands, and writes one JSON line for each of them, and for each
+/// printed mention, to the sink. Every other list of words is refused. A status from 2 on has its line on `diag`.
+///
+/// The history that comes back is one legal history of the script from no document and no session: each reply is what the one-thread
+/// object answers there, each client's entries are its commands once and in order, the bytes that the sink took are its lines,
+/// and each print shows the mentions that the rounds find in the documents that were committed when its session was opened.
+pub fn odinson<S: Source + Drop, W: Sink + Drop, E: Sink + Drop>(alloc: Global, words: &[String], source: S, sink: W, diag: E) -> Ended<S, W, E>
+    // How it ended, and what the history and the sink are then.
+    ensures outcome { EndsWith (λ status. Outcome status result.history.items (S.left source) (W.written sink) (W.written result.sink)) result.status }
+
+    // Usage exactly where the words are not those of the program.
+    ensures usage { (result.status ≡ 2) ↔ (is_serve (map string_bytes words.now) ≡ false) }
+
+    // A fault only where a count of faults rose. Counts never fall.
+    ensures read { result.status ≡ 7 → Rose (S.faults source) (S.faults result.source) }
+    ensures write { result.status ≡ 8 → Rose (W.faults sink) (W.faults result.sink) }
+    ensures source_later { S.faults source ≤ S.faults result.source }
+    ensures sink_later { W.faults sink ≤ W.faults result.sink }
+
+    // The line of the status, and nothing where every command was answered.
+    ensures warns { EndsWith (λ status. Warns (E.faults diag) (E.faults result.diag) (E.written diag) (E.written result.diag) (diagnostic status)) result.status }
+    ensures quiet { (result.status ≡ 0) ⊎ (result.status ≡ 1) → result.diag ≡ diag }
+    ensures diag_later { E.faults diag ≤ E.faults result.diag }
+
+    // Where every command was answered, the source was read to its end.
+    ensures end { (result.status ≡ 0) ⊎ (result.status ≡ 1) → IsAtEnd (S.left result.source) }
+
+    // With the right words and no fault every command is answered, the bytes are no script, or memory is refused.
+    ensures complete { is_serve (map string_bytes words.now) ≡ true → (Rose (S.faults source) (S.faults result.source) → ⊥) → (Rose (W.faults sink) (W.faults result.sink) → ⊥) → EndsWith (λ status. CanEndSo status (S.left source)) result.status }
+{
+    let mut source = source;
+    let mut sink = sink;
+    let mut diag = diag;
+    let mut history = Vec::new(alloc);
+    let status = if is_serve(words) {
+        serve(alloc, &mut source, &mut sink, &mut history)
+    } else {
+        Status::Usage
+    };
+    warn(&mut diag, status);
+    Ended {
+        status: exit_status(status),
+        history,
+        source,
+        sink,
+        diag,
     }
 }

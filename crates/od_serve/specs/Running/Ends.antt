@@ -6,6 +6,7 @@ use Rattle.od_io.specs.Streams.Writing.{AppendsProperPrefix}
 use Rattle.od_model.specs.declared.status.Status.{Status}
 use Rattle.od_model.specs.declared.status.Status.TheVariants.{Done, Refused, NoScript, NoMemory}
 use Rattle.od_model.specs.Run.Outcome.{IsNoScript}
+use Rattle.od_model.specs.Run.Words.{exit_status}
 
 -- every command was answered
 abbrev pub Answered : Status → Type 0
@@ -18,3 +19,7 @@ CanEndSo status left = Answered status ⊎ (((status ≡ NoScript) × IsNoScript
 -- the line was written, or a proper prefix of it where the count of faults rose
 abbrev pub Warns : ℕ → ℕ → Option (List ℕ) → Option (List ℕ) → List ℕ → Type 0
 Warns before now written_before written_now line = Appends written_before written_now line ⊎ (AppendsProperPrefix written_before written_now line × Rose before now)
+
+-- the exit status is that of a way to end of which P holds
+abbrev pub EndsWith : (Status → Type 0) → ℕ → Type 0
+EndsWith P number = (status : Status) × (number ≡ exit_status status) × P status

@@ -15,9 +15,9 @@ run_client-requires g c κs within =
     let gives = c.into_iter-orders-iterator.ensures.into_iter_gives in
     let road = YieldsList-from_vec {s = c.into_iter-orders-iterator.result} c.args.clients (gives.0 ∙ c.into_vec-orders-items.ensures) (gives.1 ∙ c.into_vec-orders-items.result.ok.0 ∙ ap length c.into_vec-orders-items.ensures) in
     let turn = YieldsList-turn road c.clients.yielded c.clients.orders-iterator c.clients.yielded_by c.next.result c.next.new.self c.in-Some.orders c.in-Some.is c.next.ensures.steps in
-    (within.0, (within.1, (c.requires.1.1.0, (c.clients.invariant.reached,
+    (within, (c.requires.1.0, (c.clients.invariant.reached,
         (fresh-caller c.clients.caller c.clients.yielded c.clients.history.items c.clients.invariant.caller c.clients.invariant.callers,
-        each-place (λ (orders : List Order). length orders ≤ 10000) c.args.clients (length c.clients.yielded) c.in-Some.orders turn.0 turn.1 c.requires.1.1.1.1.1.1)))))
+        each-place (λ (orders : List Order). length orders ≤ 10000) c.args.clients (length c.clients.yielded) c.in-Some.orders turn.0 turn.1 c.requires.1.1.1.1.1))))
 
 pub clients-preserved : goal.clients-preserved
 clients-preserved g c =
