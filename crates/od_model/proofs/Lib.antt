@@ -6,4 +6,5 @@ pub mod Matching
 pub mod Objects
 pub mod Reading
 pub mod Rounds
+pub mod Runnable
 pub mod Walks

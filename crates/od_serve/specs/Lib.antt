@@ -3,6 +3,7 @@ pub mod Cuts
 pub mod Hashes
 pub mod Known
 pub mod Queries
+pub mod Running
 pub mod Scripts
 pub mod Stores
 pub mod Walks

@@ -40,17 +40,28 @@ pub record IsCutShort (heads : List Head) (history : List Entry) (before now : O
 abbrev pub IsWritten : List Head → List Entry → Option (List ℕ) → Option (List ℕ) → Type 0
 IsWritten heads history before now = Appends before now (Lines nothing heads history)
 
--- the script was run as far as the history goes: one legal history, whose prints show the rounds
-pub record Ran (left : Option (List ℕ)) (history : List Entry) (script : Script) : Type 0 where
-  pub script_is : IsScriptOf left script
+-- one legal history of the script, whose prints show the rounds
+pub record Ran (script : Script) (history : List Entry) : Type 0 where
   pub runs : Runs script history
   pub prints : PrintsRounds nothing script.heads history
 
--- every client's commands were answered, and their lines written
-pub record RanWhole (left : Option (List ℕ)) (history : List Entry) (before now : Option (List ℕ)) (script : Script) : Type 0 where
-  pub ran : Ran left history script
+-- every client's commands were answered, and the lines written
+pub record RanWhole (script : Script) (history : List Entry) (before now : Option (List ℕ)) : Type 0 where
+  pub ran : Ran script history
   pub follows : EachClient Follows script.clients history
   pub written : IsWritten script.heads history before now
+
+-- what each status says of a script that was run, its history, and the bytes that the sink had before and has now
+abbrev pub RunOutcome : Status → Script → List Entry → Option (List ℕ) → Option (List ℕ) → Type 0
+RunOutcome Done script history before now = RanWhole script history before now × (has_refusal history ≡ false)
+RunOutcome Refused script history before now = RanWhole script history before now × (has_refusal history ≡ true)
+RunOutcome WriteFault script history before now = Ran script history × IsCutShort script.heads history before now
+RunOutcome NoMemory script history before now = Ran script history × IsWritten script.heads history before now
+RunOutcome status script history before now = ⊥
+
+-- the bytes that the source had are a script, which was run
+abbrev pub RunsScript : Status → List Entry → Option (List ℕ) → Option (List ℕ) → Option (List ℕ) → Type 0
+RunsScript status history left before now = (script : Script) × IsScriptOf left script × RunOutcome status script history before now
 
 -- nothing was answered and nothing written
 abbrev pub DidNothing : List Entry → Option (List ℕ) → Option (List ℕ) → Type 0
@@ -58,10 +69,8 @@ DidNothing history before now = (history ≡ []) × (now ≡ before)
 
 -- what each status says of the history, of the bytes that the source had, and of those that the sink had before and has now
 abbrev pub Outcome : Status → List Entry → Option (List ℕ) → Option (List ℕ) → Option (List ℕ) → Type 0
-Outcome Done history left before now = (script : Script) × RanWhole left history before now script × (has_refusal history ≡ false)
-Outcome Refused history left before now = (script : Script) × RanWhole left history before now script × (has_refusal history ≡ true)
 Outcome Usage history left before now = DidNothing history before now
 Outcome NoScript history left before now = DidNothing history before now × IsNoScript left
 Outcome ReadFault history left before now = DidNothing history before now
-Outcome WriteFault history left before now = (script : Script) × Ran left history script × IsCutShort script.heads history before now
-Outcome NoMemory history left before now = DidNothing history before now ⊎ ((script : Script) × Ran left history script × IsWritten script.heads history before now)
+Outcome NoMemory history left before now = DidNothing history before now ⊎ RunsScript NoMemory history left before now
+Outcome status history left before now = RunsScript status history left before now

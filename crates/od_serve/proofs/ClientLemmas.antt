@@ -1,0 +1,74 @@
+-- One client more.
+use Rattle.std.proofs.Common.{◌≡◌, ℕ, zero, suc, ◌+◌, ◌<◌, ◌≤◌, List, [], ◌∷◌, ◌++◌, length, take, drop, get_or, refl, sym, ap, ap₂, ◌∙◌, subst, arith, length-append}
+use Rattle.std.proofs.lemmas.List.{take_more, take-append-drop}
+use Rattle.od_model.specs.declared.history.Entry.{Entry}
+use Rattle.od_model.specs.declared.script.Order.{Order}
+use Rattle.od_model.specs.Lists.{Each}
+use Rattle.od_model.specs.History.Legal.{mine}
+use Rattle.od_model.specs.History.Orders.{Follows, Begins}
+use Rattle.od_model.specs.Run.Clients.{EachClient, OfClients}
+use Rattle.od_model.proofs.Lists.{Each-append, Each-weaker}
+use Rattle.od_model.proofs.Histories.Callers.{AreOf, EachFrom, EachFrom-append, EachFrom-later, EachFrom-begun, EachFrom-none, each-client, mine-next, mine-new}
+use Rattle.od_serve.specs.Running.Told.{Further, GoesFurther}
+
+-- the callers of the entries are numbered from 1 up to a number
+abbrev pub CallersTo : ℕ → List Entry → Type 0
+CallersTo most history = Each (λ e. (1 ≤ e.caller) × (e.caller ≤ most)) history
+
+pub fresh-caller : (caller : ℕ) (done : List (List Order)) (history : List Entry) → caller ≡ length done + 1 → CallersTo (length done) history → mine caller history ≡ []
+fresh-caller caller done history is h = mine-new caller (length done) history (omega (arith, is)) h
+
+callers-to : (caller most : ℕ) (es : List Entry) → 1 ≤ caller → caller ≤ most → AreOf caller es → CallersTo most es
+callers-to caller most [] h k own = tt
+callers-to caller most (e ∷ es) h k own = ((let is = own.0 in omega (arith, is, h), let is = own.0 in omega (arith, is, k)), callers-to caller most es h k own.1)
+
+wider : (a b : ℕ) (es : List Entry) → a ≤ b → CallersTo a es → CallersTo b es
+wider a b [] h k = tt
+wider a b (e ∷ es) h k = ((k.0.0, let few = k.0.1 in omega (arith, few, h)), wider a b es h k.1)
+
+pub callers-more : (U : List Order → List Entry → Type 0) (caller : ℕ) (done : List (List Order)) (orders : List Order) (old new : List Entry) → caller ≡ length done + 1 → CallersTo (length done) old → GoesFurther U caller orders old new → CallersTo (length (done ++ orders ∷ [])) new
+callers-more U caller done orders old new is h (more, k) =
+    let long : length (done ++ orders ∷ []) ≡ length done + 1 = length-append done (orders ∷ []) in
+    subst (CallersTo (length (done ++ orders ∷ []))) (sym k.new_is)
+        (Each-append (λ e. (1 ≤ e.caller) × (e.caller ≤ length (done ++ orders ∷ []))) old more
+        (wider (length done) (length (done ++ orders ∷ [])) old (omega (arith, long)) h)
+        (callers-to caller (length (done ++ orders ∷ [])) more (omega (arith, is)) (omega (arith, is, long)) k.callers))
+
+pub clients-more : (U : List Order → List Entry → Type 0) (caller : ℕ) (done : List (List Order)) (orders : List Order) (old new : List Entry) → caller ≡ length done + 1 → CallersTo (length done) old → EachFrom U 0 done old → GoesFurther U caller orders old new → EachFrom U 0 (done ++ orders ∷ []) new
+clients-more U caller done orders old new is h each (more, k) =
+    let same : length done + 1 ≡ caller = sym is in
+    let own : mine (length done + 1) (old ++ more) ≡ more = ap (λ n. mine n (old ++ more)) same ∙ mine-next caller (length done) old more (omega (arith, is)) h k.callers in
+    subst (EachFrom U 0 (done ++ orders ∷ [])) (sym k.new_is)
+        (EachFrom-append U 0 (length done) done (orders ∷ []) (old ++ more) (omega arith)
+        (EachFrom-later U 0 caller done old more (omega (arith, is)) k.callers each)
+        (subst (λ l. U orders l) (sym own) k.unfolds, tt))
+
+-- the clients after those that were run have no entry
+pub clients-cut : (caller : ℕ) (done : List (List Order)) (orders : List Order) (rest : List (List Order)) (old new : List Entry) → caller ≡ length done + 1 → CallersTo (length done) old → EachFrom Follows 0 done old → GoesFurther Begins caller orders old new
+    → EachClient Begins ((done ++ orders ∷ []) ++ rest) new
+clients-cut caller done orders rest old new is h each further =
+    let front = clients-more Begins caller done orders old new is h (EachFrom-begun 0 done old each) further in
+    let callers = callers-more Begins caller done orders old new is h further in
+    let n : ℕ = length (done ++ orders ∷ []) in
+    each-client Begins ((done ++ orders ∷ []) ++ rest) new
+        (EachFrom-append Begins 0 n (done ++ orders ∷ []) rest new (omega arith) front (EachFrom-none n n rest new (omega arith) callers))
+
+pub of-clients : (done rest : List (List Order)) (history : List Entry) → CallersTo (length done) history → OfClients (done ++ rest) history
+of-clients done rest history h = wider (length done) (length (done ++ rest)) history (omega (arith, length-append done rest)) h
+
+pub clients-whole : (clients : List (List Order)) (history : List Entry) → EachFrom Follows 0 clients history → EachClient Follows clients history × EachClient Begins clients history
+clients-whole clients history h = (each-client Follows clients history h, each-client Begins clients history (EachFrom-begun 0 clients history h))
+
+-- ## Places in a list that a loop goes through
+
+-- what holds of each element holds of the one at a place
+pub each-place : {X : Type 0} (P : X → Type 0) (xs : List X) (k : ℕ) (x : X) → k < length xs → x ≡ get_or xs k x → Each P xs → P x
+each-place P [] k x h is each = absurd (omega (arith, h))
+each-place P (y ∷ xs) zero x h is each = subst P (sym is) each.0
+each-place P (y ∷ xs) (suc k) x h is each = each-place P xs k x (omega (arith, h)) is each.1
+
+-- the elements so far, the next one, and those behind it
+pub split_at : {X : Type 0} (all done : List X) (x : X) → length done < length all → done ≡ take (length done) all → x ≡ get_or all (length done) x → all ≡ (done ++ x ∷ []) ++ drop (length done + 1) all
+split_at all done x h front is =
+    let more : take (length done + 1) all ≡ done ++ x ∷ [] = take_more all (length done) x h ∙ ap₂ (λ xs y. xs ++ y ∷ []) (sym front) (sym is) in
+    sym (take-append-drop (length done + 1) all) ∙ ap (λ l. l ++ drop (length done + 1) all) more

@@ -1,0 +1,45 @@
+//! The lines of an entry, over the object that it left.
+ghost use Rattle.std.specs.Prelude.{◌≡◌, IfOk};
+ghost use Rattle.od_model.specs.Object.Parts.{session_of};
+ghost use Rattle.od_model.specs.History.Lines.{entry_lines, lines_before, lines_of_session};
+
+use std::alloc::Global;
+
+use od_model::history::{Command, Entry, Reply};
+use od_model::text::{Bytes, NoMemory, Text};
+
+use crate::lines::{entry_line, session_lines};
+use crate::store::Store;
+
+/// The lines of the mentions of a session, if it is there.
+fn shown_lines(alloc: Global, store: &Store, name: &Text) -> Result<Bytes, NoMemory>
+    ensures { IfOk result (λ lines. lines ≡ lines_of_session store.now.docs name.now (session_of name.now store.now.sessions)) }
+{
+    match store.rounds_of(name) {
+        Some(rounds) => session_lines(alloc, name, store.docs(), rounds),
+        None => Ok(Bytes::new(alloc)),
+    }
+}
+
+/// The lines of the mentions that a print shows; no other reply has any.
+fn printed_lines(alloc: Global, store: &Store, command: &Command, reply: &Reply) -> Result<Bytes, NoMemory>
+    ensures { IfOk result (λ lines. lines ≡ lines_before store.now command.now reply.now) }
+{
+    match command {
+        Command::Print { name } => match reply {
+            Reply::Printed { .. } => shown_lines(alloc, store, name),
+            _ => Ok(Bytes::new(alloc)),
+        },
+        _ => Ok(Bytes::new(alloc)),
+    }
+}
+
+/// The lines of an entry: the printed mentions, then its own line.
+pub fn entry_lines(alloc: Global, store: &Store, entry: &Entry) -> Result<Bytes, NoMemory>
+    ensures { IfOk result (λ lines. lines ≡ entry_lines store.now entry.now) }
+{
+    let mut lines = printed_lines(alloc, store, &entry.command, &entry.reply)?;
+    let own = entry_line(alloc, entry)?;
+    lines.append(own.get())?;
+    Ok(lines)
+}
