@@ -30,18 +30,18 @@ pub callers-more : (U : List Order → List Entry → Type 0) (caller : ℕ) (do
 callers-more U caller done orders old new is h (more, k) =
     let long : length (done ++ orders ∷ []) ≡ length done + 1 = length-append done (orders ∷ []) in
     subst (CallersTo (length (done ++ orders ∷ []))) (sym k.new_is)
-        (Each-append (λ e. (1 ≤ e.caller) × (e.caller ≤ length (done ++ orders ∷ []))) old more
-        (wider (length done) (length (done ++ orders ∷ [])) old (omega (arith, long)) h)
-        (callers-to caller (length (done ++ orders ∷ [])) more (omega (arith, is)) (omega (arith, is, long)) k.callers))
+    (Each-append (λ e. (1 ≤ e.caller) × (e.caller ≤ length (done ++ orders ∷ []))) old more
+    (wider (length done) (length (done ++ orders ∷ [])) old (omega (arith, long)) h)
+    (callers-to caller (length (done ++ orders ∷ [])) more (omega (arith, is)) (omega (arith, is, long)) k.callers))
 
 pub clients-more : (U : List Order → List Entry → Type 0) (caller : ℕ) (done : List (List Order)) (orders : List Order) (old new : List Entry) → caller ≡ length done + 1 → CallersTo (length done) old → EachFrom U 0 done old → GoesFurther U caller orders old new → EachFrom U 0 (done ++ orders ∷ []) new
 clients-more U caller done orders old new is h each (more, k) =
     let same : length done + 1 ≡ caller = sym is in
     let own : mine (length done + 1) (old ++ more) ≡ more = ap (λ n. mine n (old ++ more)) same ∙ mine-next caller (length done) old more (omega (arith, is)) h k.callers in
     subst (EachFrom U 0 (done ++ orders ∷ [])) (sym k.new_is)
-        (EachFrom-append U 0 (length done) done (orders ∷ []) (old ++ more) (omega arith)
-        (EachFrom-later U 0 caller done old more (omega (arith, is)) k.callers each)
-        (subst (λ l. U orders l) (sym own) k.unfolds, tt))
+    (EachFrom-append U 0 (length done) done (orders ∷ []) (old ++ more) (omega arith)
+    (EachFrom-later U 0 caller done old more (omega (arith, is)) k.callers each)
+    (subst (λ l. U orders l) (sym own) k.unfolds, tt))
 
 -- the clients after those that were run have no entry
 pub clients-cut : (caller : ℕ) (done : List (List Order)) (orders : List Order) (rest : List (List Order)) (old new : List Entry) → caller ≡ length done + 1 → CallersTo (length done) old → EachFrom Follows 0 done old → GoesFurther Begins caller orders old new
@@ -51,7 +51,7 @@ clients-cut caller done orders rest old new is h each further =
     let callers = callers-more Begins caller done orders old new is h further in
     let n : ℕ = length (done ++ orders ∷ []) in
     each-client Begins ((done ++ orders ∷ []) ++ rest) new
-        (EachFrom-append Begins 0 n (done ++ orders ∷ []) rest new (omega arith) front (EachFrom-none n n rest new (omega arith) callers))
+    (EachFrom-append Begins 0 n (done ++ orders ∷ []) rest new (omega arith) front (EachFrom-none n n rest new (omega arith) callers))
 
 pub of-clients : (done rest : List (List Order)) (history : List Entry) → CallersTo (length done) history → OfClients (done ++ rest) history
 of-clients done rest history h = wider (length done) (length (done ++ rest)) history (omega (arith, length-append done rest)) h

@@ -116,11 +116,14 @@ further-begun caller orders old new (more, h) = (more, record { new_is = h.new_i
 
 further-then : (U V W : List Order → List Entry → Type 0) → ((os ps : List Order) (es fs : List Entry) → U os es → V ps fs → W (os ++ ps) (es ++ fs))
     → (caller : ℕ) (os ps : List Order) (old mid new : List Entry) → GoesFurther U caller os old mid → GoesFurther V caller ps mid new → GoesFurther W caller (os ++ ps) old new
-further-then U V W join caller os ps old mid new (es, h) (fs, k) = (es ++ fs, record {
-  new_is = k.new_is ∙ ap (λ l. l ++ fs) h.new_is ∙ append_assoc old es fs;
-  callers = Each-append (λ e. e.caller ≡ caller) es fs h.callers k.callers;
-  unfolds = join os ps es fs h.unfolds k.unfolds;
-})
+further-then U V W join caller os ps old mid new (es, h) (fs, k) = (
+  es ++ fs,
+  record {
+    new_is = k.new_is ∙ ap (λ l. l ++ fs) h.new_is ∙ append_assoc old es fs;
+    callers = Each-append (λ e. e.caller ≡ caller) es fs h.callers k.callers;
+    unfolds = join os ps es fs h.unfolds k.unfolds;
+  },
+)
 
 pub follows-then : (caller : ℕ) (os ps : List Order) (old mid new : List Entry) → GoesFurther Follows caller os old mid → GoesFurther Follows caller ps mid new → GoesFurther Follows caller (os ++ ps) old new
 follows-then = further-then Follows Follows Follows Follows-after
@@ -152,18 +155,24 @@ pub steps-none : (name : List ℕ) (caller : ℕ) (history : List Entry) → Goe
 steps-none name caller history = ([], record { new_is = sym (append-nil history); callers = tt; going = tt })
 
 pub steps-more : (name : List ℕ) (caller : ℕ) (old mid new : List Entry) (e : Entry) → GoesOnSteps name caller old mid → OneMore caller (Step name) mid new e → GoesOn e.reply → GoesOnSteps name caller old new
-steps-more name caller old mid new e (more, h) k goes = (more ++ e ∷ [], record {
-  new_is = k.new_is ∙ ap (λ l. l ++ e ∷ []) h.new_is ∙ append_assoc old more (e ∷ []);
-  callers = Each-append (λ x. x.caller ≡ caller) more (e ∷ []) h.callers (k.caller_is, tt);
-  going = IsGoing-snoc name more e h.going k.command_is goes;
-})
+steps-more name caller old mid new e (more, h) k goes = (
+  more ++ e ∷ [],
+  record {
+    new_is = k.new_is ∙ ap (λ l. l ++ e ∷ []) h.new_is ∙ append_assoc old more (e ∷ []);
+    callers = Each-append (λ x. x.caller ≡ caller) more (e ∷ []) h.callers (k.caller_is, tt);
+    going = IsGoing-snoc name more e h.going k.command_is goes;
+  },
+)
 
 pub steps-ended : (name : List ℕ) (caller : ℕ) (old mid new : List Entry) (e : Entry) → GoesOnSteps name caller old mid → OneMore caller (Step name) mid new e → (GoesOn e.reply → ⊥) → GoesFurther Follows caller (Run name ∷ []) old new
-steps-ended name caller old mid new e (more, h) k ends = (more ++ e ∷ [], record {
-  new_is = k.new_is ∙ ap (λ l. l ++ e ∷ []) h.new_is ∙ append_assoc old more (e ∷ []);
-  callers = Each-append (λ x. x.caller ≡ caller) more (e ∷ []) h.callers (k.caller_is, tt);
-  unfolds = Follows-run name more e h.going k.command_is ends;
-})
+steps-ended name caller old mid new e (more, h) k ends = (
+  more ++ e ∷ [],
+  record {
+    new_is = k.new_is ∙ ap (λ l. l ++ e ∷ []) h.new_is ∙ append_assoc old more (e ∷ []);
+    callers = Each-append (λ x. x.caller ≡ caller) more (e ∷ []) h.callers (k.caller_is, tt);
+    unfolds = Follows-run name more e h.going k.command_is ends;
+  },
+)
 
 pub steps-begun : (name : List ℕ) (caller : ℕ) (old new : List Entry) → GoesOnSteps name caller old new → GoesFurther Begins caller (Run name ∷ []) old new
 steps-begun name caller old new (more, h) = (more, record { new_is = h.new_is; callers = h.callers; unfolds = inl h.going })

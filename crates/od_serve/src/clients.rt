@@ -8,19 +8,24 @@ ghost use Rattle.od_model.specs.Script.Runnable.{IsQuery};
 ghost use Rattle.od_model.specs.Run.Clients.{EachClient, OfClients};
 ghost use Rattle.od_serve.specs.Running.Told.{IsTold, IsReached, EndsAt};
 
-use std::alloc::Global;
-
+use crate::run::{Stop, run_client};
+use crate::store::Store;
 use od_io::Sink;
 use od_model::grammar::Head;
 use od_model::history::Entry;
 use od_model::list::List;
 use od_model::script::Order;
-
-use crate::run::{Stop, run_client};
-use crate::store::Store;
+use std::alloc::Global;
 
 /// Follows each client's orders, the first client being caller 1, to their end or until a command cannot be answered.
-pub fn run_clients<W: Sink>(alloc: Global, heads: &[Head], store: &mut Store, history: &mut Vec<Entry>, sink: &mut W, clients: List<List<Order>>) -> Result<(), Stop>
+pub fn run_clients<W: Sink>(
+    alloc: Global,
+    heads: &[Head],
+    store: &mut Store,
+    history: &mut Vec<Entry>,
+    sink: &mut W,
+    clients: List<List<Order>>,
+) -> Result<(), Stop>
     ghost before: { Option (Seq ℕ) }
     requires accepted { Each IsQuery heads.now }
     requires empty { history.old.items ≡ [] }

@@ -1,17 +1,19 @@
 //! The server: reads a script, answers its commands by the one-thread object, and writes the lines.
 #![tactic(auto)]
 
-pub mod clients;
+mod clients;
 mod cut;
 pub mod known;
 pub mod lines;
 pub mod names;
 pub mod query;
 pub mod round;
-pub mod run;
+mod run;
 pub mod scan;
 pub mod script;
-pub mod serve;
+mod serve;
 mod shown;
 pub mod store;
 mod walk;
+
+pub use serve::{Ended, is_serve, odinson};

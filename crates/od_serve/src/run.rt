@@ -9,18 +9,15 @@ ghost use Rattle.od_model.specs.Script.Runnable.{IsQuery};
 ghost use Rattle.od_serve.specs.Running.Told.{IsTold, IsReached, EndsAt, OneMore, AtMostOne, GoesFurther};
 ghost use Rattle.od_model.specs.declared.script.Order.TheVariants.{Run};
 
-use std::alloc::Global;
-
+use crate::shown::entry_lines;
+use crate::store::Store;
 use od_io::{Sink, write_whole};
 use od_model::grammar::Head;
 use od_model::history::{Command, Entry, Phase, Reply};
 use od_model::list::List;
 use od_model::script::Order;
 use od_model::text::{Copied, Text};
-
-use crate::shown::entry_lines;
-use crate::store::Store;
-
+use std::alloc::Global;
 
 /// Why a run ended before all commands were answered.
 #[derive(Clone, Copy, Debug, PartialEq, Eq)]
@@ -40,7 +37,16 @@ fn goes_on(reply: &Reply) -> bool
 }
 
 /// Answers one command, and writes its lines. Gives whether a run goes on after the reply.
-fn tell<W: Sink>(alloc: Global, heads: &[Head], store: &mut Store, history: &mut Vec<Entry>, sink: &mut W, caller: u32, call: u32, command: Command) -> Result<bool, Stop>
+fn tell<W: Sink>(
+    alloc: Global,
+    heads: &[Head],
+    store: &mut Store,
+    history: &mut Vec<Entry>,
+    sink: &mut W,
+    caller: u32,
+    call: u32,
+    command: Command,
+) -> Result<bool, Stop>
     ghost before: { Option (Seq ℕ) }
     requires accepted { Each IsQuery heads.now }
     requires reached { IsReached heads.now history.old.items store.old before (W.written sink.old) }
@@ -75,7 +81,16 @@ fn tell<W: Sink>(alloc: Global, heads: &[Head], store: &mut Store, history: &mut
 }
 
 /// Steps a session until a reply that ends the run. Gives the number of the caller's next call.
-fn run_steps<W: Sink>(alloc: Global, heads: &[Head], store: &mut Store, history: &mut Vec<Entry>, sink: &mut W, caller: u32, call: u32, name: &Text) -> Result<u32, Stop>
+fn run_steps<W: Sink>(
+    alloc: Global,
+    heads: &[Head],
+    store: &mut Store,
+    history: &mut Vec<Entry>,
+    sink: &mut W,
+    caller: u32,
+    call: u32,
+    name: &Text,
+) -> Result<u32, Stop>
     ghost before: { Option (Seq ℕ) }
     requires accepted { Each IsQuery heads.now }
     requires reached { IsReached heads.now history.old.items store.old before (W.written sink.old) }
@@ -96,7 +111,16 @@ fn run_steps<W: Sink>(alloc: Global, heads: &[Head], store: &mut Store, history:
             return Err(Stop::NoMemory);
         };
         let command = Command::Step { name: session };
-        match tell(alloc, heads, store, history, sink, caller, call + steps, command) {
+        match tell(
+            alloc,
+            heads,
+            store,
+            history,
+            sink,
+            caller,
+            call + steps,
+            command,
+        ) {
             Ok(true) => steps += 1,
             Ok(false) => return Ok(call + steps + 1),
             Err(stop) => return Err(stop),
@@ -105,7 +129,16 @@ fn run_steps<W: Sink>(alloc: Global, heads: &[Head], store: &mut Store, history:
 }
 
 /// Follows one order. Gives the number of the caller's next call.
-fn follow<W: Sink>(alloc: Global, heads: &[Head], store: &mut Store, history: &mut Vec<Entry>, sink: &mut W, caller: u32, call: u32, order: Order) -> Result<u32, Stop>
+fn follow<W: Sink>(
+    alloc: Global,
+    heads: &[Head],
+    store: &mut Store,
+    history: &mut Vec<Entry>,
+    sink: &mut W,
+    caller: u32,
+    call: u32,
+    order: Order,
+) -> Result<u32, Stop>
     ghost before: { Option (Seq ℕ) }
     requires accepted { Each IsQuery heads.now }
     requires reached { IsReached heads.now history.old.items store.old before (W.written sink.old) }
@@ -121,7 +154,9 @@ fn follow<W: Sink>(alloc: Global, heads: &[Head], store: &mut Store, history: &m
     ensures later { W.faults sink.old ≤ W.faults sink.new }
 {
     match order {
-        Order::One(command) => match tell(alloc, heads, store, history, sink, caller, call, command) {
+        Order::One(command) => match tell(
+            alloc, heads, store, history, sink, caller, call, command,
+        ) {
             Ok(_) => Ok(call + 1),
             Err(stop) => Err(stop),
         },
@@ -130,7 +165,15 @@ fn follow<W: Sink>(alloc: Global, heads: &[Head], store: &mut Store, history: &m
 }
 
 /// Follows a client's orders to their end, or until one cannot be answered.
-pub fn run_client<W: Sink>(alloc: Global, heads: &[Head], store: &mut Store, history: &mut Vec<Entry>, sink: &mut W, caller: u32, orders: List<Order>) -> Result<(), Stop>
+pub fn run_client<W: Sink>(
+    alloc: Global,
+    heads: &[Head],
+    store: &mut Store,
+    history: &mut Vec<Entry>,
+    sink: &mut W,
+    caller: u32,
+    orders: List<Order>,
+) -> Result<(), Stop>
     ghost before: { Option (Seq ℕ) }
     requires accepted { Each IsQuery heads.now }
     requires reached { IsReached heads.now history.old.items store.old before (W.written sink.old) }

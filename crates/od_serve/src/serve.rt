@@ -8,17 +8,15 @@ ghost use Rattle.od_model.specs.Run.Words.{is_serve, exit_status, diagnostic};
 ghost use Rattle.od_model.specs.Script.Runnable.{IsRunnable};
 ghost use Rattle.od_serve.specs.Running.Ends.{Answered, CanEndSo, EndsWith, Warns};
 
-use std::alloc::Global;
-
-use od_io::{ReadAll, Sink, Source, read_all, write_whole};
-use od_model::history::{Entry, Reply};
-use od_model::script::Script;
-use od_model::status::Status;
-
 use crate::clients::run_clients;
 use crate::run::Stop;
 use crate::script::{ScriptFault, read_script};
 use crate::store::Store;
+use od_io::{ReadAll, Sink, Source, read_all, write_whole};
+use od_model::history::{Entry, Reply};
+use od_model::script::Script;
+use od_model::status::Status;
+use std::alloc::Global;
 
 /// The most bytes that a script may have: 64 MiB.
 const MOST_BYTES: usize = 67108864;
@@ -53,7 +51,12 @@ fn has_refusal(history: &[Entry]) -> bool
 }
 
 /// Runs a script's clients one after another, over no document and no session.
-fn run_script<W: Sink>(alloc: Global, script: Script, sink: &mut W, history: &mut Vec<Entry>) -> Status
+fn run_script<W: Sink>(
+    alloc: Global,
+    script: Script,
+    sink: &mut W,
+    history: &mut Vec<Entry>,
+) -> Status
     requires runnable { IsRunnable script }
     requires empty { history.old.items ≡ [] }
     ensures outcome { RunOutcome result script history.new.items (W.written sink.old) (W.written sink.new) }
@@ -76,7 +79,12 @@ fn run_script<W: Sink>(alloc: Global, script: Script, sink: &mut W, history: &mu
 }
 
 /// Reads the source to its end, and the script in its bytes, and runs it.
-fn serve<S: Source, W: Sink>(alloc: Global, source: &mut S, sink: &mut W, history: &mut Vec<Entry>) -> Status
+fn serve<S: Source, W: Sink>(
+    alloc: Global,
+    source: &mut S,
+    sink: &mut W,
+    history: &mut Vec<Entry>,
+) -> Status
     requires empty { history.old.items ≡ [] }
     ensures outcome { Outcome result history.new.items (S.left source.old) (W.written sink.old) (W.written sink.new) }
     ensures not_usage { result ≡ Status.Usage → ⊥ }
@@ -149,7 +157,13 @@ fn warn<E: Sink>(diag: &mut E, status: Status)
 /// The history that comes back is one legal history of the script from no document and no session: each reply is what the one-thread
 /// object answers there, each client's entries are its commands once and in order, the bytes that the sink took are its lines,
 /// and each print shows the mentions that the rounds find in the documents that were committed when its session was opened.
-pub fn odinson<S: Source + Drop, W: Sink + Drop, E: Sink + Drop>(alloc: Global, words: &[String], source: S, sink: W, diag: E) -> Ended<S, W, E>
+pub fn odinson<S: Source + Drop, W: Sink + Drop, E: Sink + Drop>(
+    alloc: Global,
+    words: &[String],
+    source: S,
+    sink: W,
+    diag: E,
+) -> Ended<S, W, E>
     // How it ended, and what the history and the sink are then.
     ensures outcome { EndsWith (λ status. Outcome status result.history.items (S.left source) (W.written sink) (W.written result.sink)) result.status }
 

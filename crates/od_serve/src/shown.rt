@@ -3,13 +3,11 @@ ghost use Rattle.std.specs.Prelude.{◌≡◌, IfOk};
 ghost use Rattle.od_model.specs.Object.Parts.{session_of};
 ghost use Rattle.od_model.specs.History.Lines.{entry_lines, lines_before, lines_of_session};
 
-use std::alloc::Global;
-
-use od_model::history::{Command, Entry, Reply};
-use od_model::text::{Bytes, NoMemory, Text};
-
 use crate::lines::{entry_line, session_lines};
 use crate::store::Store;
+use od_model::history::{Command, Entry, Reply};
+use od_model::text::{Bytes, NoMemory, Text};
+use std::alloc::Global;
 
 /// The lines of the mentions of a session, if it is there.
 fn shown_lines(alloc: Global, store: &Store, name: &Text) -> Result<Bytes, NoMemory>
@@ -22,7 +20,12 @@ fn shown_lines(alloc: Global, store: &Store, name: &Text) -> Result<Bytes, NoMem
 }
 
 /// The lines of the mentions that a print shows; no other reply has any.
-fn printed_lines(alloc: Global, store: &Store, command: &Command, reply: &Reply) -> Result<Bytes, NoMemory>
+fn printed_lines(
+    alloc: Global,
+    store: &Store,
+    command: &Command,
+    reply: &Reply,
+) -> Result<Bytes, NoMemory>
     ensures { IfOk result (λ lines. lines ≡ lines_before store.now command.now reply.now) }
 {
     match command {

@@ -325,12 +325,7 @@ impl Store {
     }
 
     /// The document that the bytes are, which is committed afterwards.
-    fn answer_doc(
-        &mut self,
-        alloc: Global,
-        name: &Text,
-        body: &Bytes,
-    ) -> Result<Reply, NoMemory>
+    fn answer_doc(&mut self, alloc: Global, name: &Text, body: &Bytes) -> Result<Reply, NoMemory>
         ensures replies { IfOk result (λ reply. reply ≡ reply_doc self.old name.now body.now) }
         ensures effect { IfOk result (λ reply. (heads : Seq Headed) (caller : ℕ) → self.new ≡ effect_of heads self.old caller (AsksAdd name.now body.now) reply) }
         ensures err { OnErr result (self.new ≡ self.old) }

@@ -1,10 +1,10 @@
 -- What each answer keeps: the names of sessions differ.
-use Rattle.std.proofs.Common.{◌≡◌, ℕ, List, [], ◌∷◌, ◌++◌, length, Option, Some, None, Bool, true, false, refl, sym, subst, ◌||◌, nat_lt, nat_le, if◌then◌else◌}
+use Rattle.std.proofs.Common.{◌≡◌, ℕ, List, [], ◌++◌, length, Option, Some, None, Bool, true, false, refl, sym, subst, ◌||◌, nat_lt, nat_le, if◌then◌else◌}
 use Rattle.od_model.specs.declared.grammar.Head.{Head}
 use Rattle.od_model.specs.declared.history.Command.{Command}
-use Rattle.od_model.specs.declared.history.Command.TheVariants.{AddDoc, OpenSession, Step, Resume, Print, Release, Settle}
+use Rattle.od_model.specs.declared.history.Command.TheVariants.{AddDoc, OpenSession, Step, Resume, Release}
 use Rattle.od_model.specs.declared.history.Reply.{Reply}
-use Rattle.od_model.specs.declared.history.Reply.TheVariants.{Added, Opened, Stepped, Resumed, Printed, Released, Settled, Refused}
+use Rattle.od_model.specs.declared.history.Reply.TheVariants.{Added, Opened, Stepped, Resumed, Released, Refused}
 use Rattle.od_model.specs.declared.history.Refusal.TheVariants.{BadLimit, Taken, NoRoom}
 use Rattle.od_model.specs.declared.object.SessionState.{SessionState}
 use Rattle.od_model.specs.declared.object.OneThread.{OneThread}
@@ -63,5 +63,5 @@ pub Distinct-effect : (heads : List Head) (o : OneThread) (caller : ℕ) (comman
 Distinct-effect heads o caller command reply h replies = by-command heads o caller command reply h (λ name grammar limit e.
     let is = replied-open heads o caller name grammar limit command reply e replies in
     subst (λ c. Distinct (effect_of heads o caller c reply).sessions) (sym e)
-      (subst (λ r. Distinct (effect_of heads o caller (OpenSession name grammar limit) r).sessions) (sym is)
-        (same-after heads o caller name grammar limit (reply_open heads o name grammar limit) (headed-keeps o name limit caller (head_of grammar heads) h))))
+    (subst (λ r. Distinct (effect_of heads o caller (OpenSession name grammar limit) r).sessions) (sym is)
+    (same-after heads o caller name grammar limit (reply_open heads o name grammar limit) (headed-keeps o name limit caller (head_of grammar heads) h))))

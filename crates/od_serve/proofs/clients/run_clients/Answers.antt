@@ -14,10 +14,19 @@ pub run_client-requires : goal.run_client-requires
 run_client-requires g c κs within =
     let gives = c.into_iter-orders-iterator.ensures.into_iter_gives in
     let road = YieldsList-from_vec {s = c.into_iter-orders-iterator.result} c.args.clients (gives.0 ∙ c.into_vec-orders-items.ensures) (gives.1 ∙ c.into_vec-orders-items.result.ok.0 ∙ ap length c.into_vec-orders-items.ensures) in
-    let turn = YieldsList-turn road c.clients.yielded c.clients.orders-iterator c.clients.yielded_by c.next.result c.next.new.self c.in-Some.orders c.in-Some.is c.next.ensures.steps in
-    (within, (c.requires.1.0, (c.clients.invariant.reached,
-        (fresh-caller c.clients.caller c.clients.yielded c.clients.history.items c.clients.invariant.caller c.clients.invariant.callers,
-        each-place (λ (orders : List Order). length orders ≤ 10000) c.args.clients (length c.clients.yielded) c.in-Some.orders turn.0 turn.1 c.requires.1.1.1.1.1))))
+    let turn = YieldsList-turn road c.clients.yielded c.clients.orders-iterator c.clients.yielded_by c.next.result c.next.new.self c.in-Some.orders c.in-Some.is c.next.ensures.steps in (
+      within,
+      (
+        c.requires.1.0,
+        (
+          c.clients.invariant.reached,
+          (
+            fresh-caller c.clients.caller c.clients.yielded c.clients.history.items c.clients.invariant.caller c.clients.invariant.callers,
+            each-place (λ (orders : List Order). length orders ≤ 10000) c.args.clients (length c.clients.yielded) c.in-Some.orders turn.0 turn.1 c.requires.1.1.1.1.1,
+          ),
+        ),
+      ),
+    )
 
 pub clients-preserved : goal.clients-preserved
 clients-preserved g c =
@@ -52,7 +61,7 @@ returns-in-Err-clause-begins g c =
     let rest = drop (length c.clients.yielded + 1) c.args.clients in
     let all : c.args.clients ≡ (c.clients.yielded ++ c.in-Some.orders ∷ []) ++ rest = split_at c.args.clients c.clients.yielded c.in-Some.orders turn.0 (sym (map-id c.clients.yielded) ∙ so_far) turn.1 in
     subst (λ (cs : List (List Order)). EachClient Begins cs c.run_client.new.history.items) (sym all)
-        (clients-cut c.clients.caller c.clients.yielded c.in-Some.orders rest c.clients.history.items c.run_client.new.history.items c.clients.invariant.caller c.clients.invariant.callers c.clients.invariant.follows c.in-Err.ensures.begun)
+    (clients-cut c.clients.caller c.clients.yielded c.in-Some.orders rest c.clients.history.items c.run_client.new.history.items c.clients.invariant.caller c.clients.invariant.callers c.clients.invariant.follows c.in-Err.ensures.begun)
 
 pub returns-clause-callers : goal.returns-clause-callers
 returns-clause-callers g c =

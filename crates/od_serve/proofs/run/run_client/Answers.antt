@@ -30,7 +30,7 @@ returns-in-Err-clause-begun g c =
     let so_far = YieldsList-so_far road c.orders.yielded c.orders.order-iterator c.orders.yielded_by in
     let rest = drop (length c.orders.yielded + 1) c.args.orders in
     let front : take (length c.orders.yielded + 1) c.args.orders ≡ c.orders.yielded ++ c.in-Some.order ∷ [] =
-        take_more c.args.orders (length c.orders.yielded) c.in-Some.order turn.0 ∙ ap₂ (λ (xs : List Order) (x : Order). xs ++ x ∷ []) (sym so_far ∙ map-id c.orders.yielded) (sym turn.1) in
+    take_more c.args.orders (length c.orders.yielded) c.in-Some.order turn.0 ∙ ap₂ (λ (xs : List Order) (x : Order). xs ++ x ∷ []) (sym so_far ∙ map-id c.orders.yielded) (sym turn.1) in
     let all : c.args.orders ≡ (c.orders.yielded ++ c.in-Some.order ∷ []) ++ rest = sym (take-append-drop (length c.orders.yielded + 1) c.args.orders) ∙ ap (λ (l : List Order). l ++ rest) front in
     let one = begins-then c.args.caller c.orders.yielded (c.in-Some.order ∷ []) c.args.history.now.items c.orders.history.items c.follow.new.history.items c.orders.invariant.followed c.in-Err.ensures.begun in
     subst (λ (os : List Order). GoesFurther Begins c.args.caller os c.args.history.now.items c.follow.new.history.items) (sym all) (begins-more c.args.caller (c.orders.yielded ++ c.in-Some.order ∷ []) rest c.args.history.now.items c.follow.new.history.items one)

@@ -13,9 +13,9 @@ steps-preserved g c =
     let goes : GoesOn told.0.reply = told.2.0 c.in-Ok-true.field-0-test in
     let reached = c.in-Ok-true.ensures.reached in
     let before : IsReached c.args.heads.now (c.steps.history.items ++ told.0 ∷ []) c.tell.new.store g.before (g.W.Sink.written c.tell.new.sink)
-        = subst (λ l. IsReached c.args.heads.now l c.tell.new.store g.before (g.W.Sink.written c.tell.new.sink)) more.new_is reached in
+    = subst (λ l. IsReached c.args.heads.now l c.tell.new.store g.before (g.W.Sink.written c.tell.new.sink)) more.new_is reached in
     let climbs = reached-climbs c.args.heads.now c.steps.history.items c.steps.store c.tell.new.store told.0 c.args.name.now g.before (g.W.Sink.written c.steps.sink) (g.W.Sink.written c.tell.new.sink)
-        c.steps.invariant.reached before more.command_is goes in
+    c.steps.invariant.reached before more.command_is goes in
     let sound = reached-sound c.args.heads.now c.tell.new.history.items c.tell.new.store g.before (g.W.Sink.written c.tell.new.sink) c.requires.1.0 reached in
     let few = list_count-few c.args.name.now c.tell.new.store sound in
     let count = c.steps.invariant.count in

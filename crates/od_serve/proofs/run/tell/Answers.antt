@@ -14,7 +14,7 @@ returns-in-Ok-write_whole-clause-reached g c =
     let lines : c.in-Ok-entry_lines.lines ≡ entry_lines c.args.store.now e = c.in-Ok-entry_lines.ensures ∙ lines-kept c.args.heads.now c.args.store.now c.answer.new.self e c.in-Ok.ensures.effect in
     let appends : Appends (g.W.Sink.written c.args.sink.now) (g.W.Sink.written c.write_whole.new.sink) (entry_lines c.args.store.now e) = rw (sym lines, sym c.get.ensures) c.in-Ok-write_whole.ensures.whole in
     rw pushed (reached-more c.args.heads.now c.args.history.now.items c.args.store.now e g.before (g.W.Sink.written c.args.sink.now) (g.W.Sink.written c.write_whole.new.sink) c.answer.new.self
-        c.requires.1.1.0 c.in-Ok.ensures.replies c.requires.1.1.1 c.in-Ok.ensures.effect appends)
+    c.requires.1.1.0 c.in-Ok.ensures.replies c.requires.1.1.1 c.in-Ok.ensures.effect appends)
 
 pub returns-clause-ends : goal.returns-clause-ends
 returns-clause-ends g c =
@@ -23,7 +23,7 @@ returns-clause-ends g c =
     let lines : c.in-Ok-entry_lines.lines ≡ entry_lines c.args.store.now e = c.in-Ok-entry_lines.ensures ∙ lines-kept c.args.heads.now c.args.store.now c.answer.new.self e c.in-Ok.ensures.effect in
     let part : AppendsProperPrefix (g.W.Sink.written c.args.sink.now) (g.W.Sink.written c.write_whole.new.sink) (entry_lines c.args.store.now e) = rw (sym lines, sym c.get.ensures) c.in-Err.ensures.part in
     rw pushed (cut-more c.args.heads.now c.args.history.now.items c.args.store.now e g.before (g.W.Sink.written c.args.sink.now) (g.W.Sink.written c.write_whole.new.sink)
-        c.requires.1.1.0 c.in-Ok.ensures.replies c.requires.1.1.1 part)
+    c.requires.1.1.0 c.in-Ok.ensures.replies c.requires.1.1.1 part)
 
 pub returns-clause-part : goal.returns-clause-part
 returns-clause-part g c =

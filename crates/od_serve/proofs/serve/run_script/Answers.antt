@@ -13,10 +13,19 @@ use Rattle.od_serve.proofs.Outcomes.{ran, ran-whole, reached-start}
 
 pub run_clients-requires : goal.run_clients-requires
 run_clients-requires g c κs within =
-    let accepted = subst (λ (hs : List Head). Each IsQuery hs) (sym c.get.ensures) c.requires.runnable.queries in
-    (within, (accepted, (c.requires.empty,
-        (reached-start c.get.result.now c.args.history.now.items _ (g.W.Sink.written c.args.sink.now) c.requires.empty c.new-store.ensures,
-        (c.requires.runnable.few, c.requires.runnable.short)))))
+    let accepted = subst (λ (hs : List Head). Each IsQuery hs) (sym c.get.ensures) c.requires.runnable.queries in (
+      within,
+      (
+        accepted,
+        (
+          c.requires.empty,
+          (
+            reached-start c.get.result.now c.args.history.now.items _ (g.W.Sink.written c.args.sink.now) c.requires.empty c.new-store.ensures,
+            (c.requires.runnable.few, c.requires.runnable.short),
+          ),
+        ),
+      ),
+    )
 
 pub returns-then-has_refusal-clause-outcome : goal.returns-then-has_refusal-clause-outcome
 returns-then-has_refusal-clause-outcome g c =

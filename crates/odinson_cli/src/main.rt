@@ -1,0 +1,28 @@
+//! The program: hands its words and the standard streams to the server, and ends with the server's status.
+#![tactic(auto)]
+
+use od_io::{StdSink, StdSource};
+use od_serve::odinson;
+use std::process::ExitCode;
+use std::{env, io};
+
+/// The program's words, without its own name.
+fn words(rt: &HostRuntime) -> io::Result<Vec<String>> {
+    let mut words = Vec::new(rt.alloc());
+    for word in env::args(rt)?.skip(1) {
+        words.push(word)?;
+    }
+    Ok(words)
+}
+
+fn main(rt: HostRuntime) -> ExitCode {
+    let mut diag = StdSink::error(rt.stderr());
+    let Ok(words) = words(&rt) else {
+        let _ = od_io::write_whole(&mut diag, "odinson: no memory\n".as_bytes());
+        return ExitCode::from(9);
+    };
+    let source = StdSource::new(rt.stdin());
+    let sink = StdSink::output(rt.stdout());
+    let ended = odinson(rt.alloc(), words.as_slice(), source, sink, diag);
+    ExitCode::from(ended.status)
+}
