@@ -1,8 +1,7 @@
 //! The server: reads a script, answers its commands by the one-thread object, and writes the lines.
 #![tactic(auto)]
-mod cut;
-mod walk;
 
+mod cut;
 pub mod known;
 pub mod lines;
 pub mod names;
@@ -11,3 +10,4 @@ pub mod round;
 pub mod scan;
 pub mod script;
 pub mod store;
+mod walk;
