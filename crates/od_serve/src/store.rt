@@ -17,6 +17,8 @@ use std::marker::Model;
 
 mod heads;
 mod session;
+#[cfg(test)]
+mod tests;
 
 /// The most documents that are committed.
 const MOST_DOCUMENTS: usize = 100_000;
@@ -198,7 +200,8 @@ impl Store {
             return Reply::Refused(Refusal::NoSession);
         };
         let session = &mut self.sessions[i];
-        if let Some(owner) = session.state().holder {
+        let holder = session.state().holder;
+        if let Some(owner) = holder {
             return Reply::Refused(Refusal::Busy { owner });
         }
         if !is_known(heads, session.state()) {

@@ -63,5 +63,5 @@ pub Distinct-effect : (heads : List Head) (o : OneThread) (caller : ℕ) (comman
 Distinct-effect heads o caller command reply h replies = by-command heads o caller command reply h (λ name grammar limit e.
     let is = replied-open heads o caller name grammar limit command reply e replies in
     subst (λ c. Distinct (effect_of heads o caller c reply).sessions) (sym e)
-      (subst (λ r. Distinct (effect_of heads o caller (OpenSession name grammar limit) r).sessions) (sym is)
-        (same-after heads o caller name grammar limit (reply_open heads o name grammar limit) (headed-keeps o name limit caller (head_of grammar heads) h))))
+    (subst (λ r. Distinct (effect_of heads o caller (OpenSession name grammar limit) r).sessions) (sym is)
+    (same-after heads o caller name grammar limit (reply_open heads o name grammar limit) (headed-keeps o name limit caller (head_of grammar heads) h))))
