@@ -65,7 +65,7 @@ impl Store {
     ghost use Rattle.od_model.specs.Object.Parts.{nothing, size_of, has_doc, is_full, session_of, has_session};
     ghost use Rattle.od_model.specs.Object.Effects.{effect_of};
     ghost use Rattle.od_model.specs.Object.Replies.{held, reply_doc, reply_open, reply_step, reply_resume, reply_print, reply_release, Replies};
-    ghost use Rattle.od_serve.specs.Stores.Heads.{IsQueryHead};
+    ghost use Rattle.od_model.specs.Script.Runnable.{IsQuery};
 
     /// No document and no session.
     pub fn new(alloc: Global) -> Store
@@ -96,7 +96,7 @@ impl Store {
         caller: u32,
         command: &Command,
     ) -> Result<Reply, NoMemory>
-        requires accepted { Each IsQueryHead heads.now }
+        requires accepted { Each IsQuery heads.now }
         ensures replies { IfOk result (λ reply. Replies heads.now self.old caller command.now reply) }
         ensures effect { IfOk result (λ reply. self.new ≡ effect_of heads.now self.old caller command.now reply) }
         ensures err { OnErr result (self.new ≡ self.old) }
@@ -278,7 +278,7 @@ impl Store {
         grammar: &Text,
         limit: u32,
     ) -> Result<Reply, NoMemory>
-        requires { Each IsQueryHead heads.now }
+        requires { Each IsQuery heads.now }
         ensures replies { IfOk result (λ reply. reply ≡ reply_open heads.now self.old name.now grammar.now limit) }
         ensures effect { IfOk result (λ reply. self.new ≡ effect_of heads.now self.old caller (Command.OpenSession name.now grammar.now limit) reply) }
         ensures err { OnErr result (self.new ≡ self.old) }

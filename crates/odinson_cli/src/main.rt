@@ -1,7 +1,7 @@
 //! The program: hands its words and the standard streams to the server, and ends with the server's status.
 #![tactic(auto)]
 
-use od_io::{StdSink, StdSource};
+use od_io::{StdSink, StdSource, write_whole};
 use od_serve::odinson;
 use std::process::ExitCode;
 use std::{env, io};
@@ -17,9 +17,14 @@ fn words(rt: &HostRuntime) -> io::Result<Vec<String>> {
 
 fn main(rt: HostRuntime) -> ExitCode {
     let mut diag = StdSink::error(rt.stderr());
-    let Ok(words) = words(&rt) else {
-        let _ = od_io::write_whole(&mut diag, "odinson: no memory\n".as_bytes());
-        return ExitCode::from(9);
+    let words = match words(&rt) {
+        Ok(words) => words,
+        Err(error) if error.kind() == io::ErrorKind::OutOfMemory => {
+            let _ = write_whole(&mut diag, "odinson: no memory\n".as_bytes());
+            return ExitCode::from(9);
+        }
+        // A word that is not UTF-8 is none of the program's; neither is the empty list of words.
+        Err(_) => Vec::new(rt.alloc()),
     };
     let source = StdSource::new(rt.stdin());
     let sink = StdSink::output(rt.stdout());

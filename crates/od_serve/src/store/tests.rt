@@ -1,5 +1,5 @@
 ghost use Rattle.std.specs.Prelude.{IfOk};
-ghost use Rattle.od_serve.specs.Stores.Heads.{IsQueryHead};
+ghost use Rattle.od_model.specs.Script.Runnable.{IsQuery};
 
 use super::Store;
 use od_model::grammar::{GrammarKind, Head};
@@ -10,7 +10,7 @@ use std::test::Fail;
 
 /// The query `dogs bark`, which the script names `q`.
 fn head(alloc: Global) -> Result<Head, NoMemory>
-    ensures { IfOk result IsQueryHead }
+    ensures { IfOk result IsQuery }
 {
     Ok(Head {
         name: Text::from_str(alloc, "q")?,
