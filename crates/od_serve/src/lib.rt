@@ -3,17 +3,17 @@
 
 mod clients;
 mod cut;
-pub mod known;
-pub mod lines;
-pub mod names;
-pub mod query;
-pub mod round;
+mod known;
+mod lines;
+mod names;
+mod query;
+mod round;
 mod run;
-pub mod scan;
-pub mod script;
+mod scan;
+mod script;
 mod serve;
 mod shown;
-pub mod store;
+mod store;
 mod walk;
 
 pub use serve::{Ended, is_serve, odinson};

@@ -18,6 +18,9 @@ use od_model::script::Script;
 use od_model::status::Status;
 use std::alloc::Global;
 
+#[cfg(test)]
+mod tests;
+
 /// The most bytes that a script may have: 64 MiB.
 const MOST_BYTES: usize = 67108864;
 

@@ -17,6 +17,20 @@ use std::marker::Model;
 
 mod heads;
 mod session;
+#[cfg(test)]
+mod tests;
+
+/// The most documents that are committed.
+const MOST_DOCUMENTS: usize = 100_000;
+
+/// The most bytes of all documents together: 128 MiB.
+const MOST_BYTES: u64 = 134_217_728;
+
+/// The most sessions.
+const MOST_SESSIONS: usize = 128;
+
+/// The most rounds that a session may be opened for.
+const MOST_ROUNDS: u32 = 100;
 
 /// The committed documents and the sessions. The bytes that the documents were read from and their sentences are counted,
 /// and a document or a session is found by its name.
@@ -43,10 +57,8 @@ impl Model for Store {
 
 impl Store {
     ghost use Rattle.std.specs.Prelude.{◌≡◌, ◌<◌, MatchResult, MatchOption, IfOk, OnOk, OnErr, ℕ, List as Seq, [], ◌∷◌, ◌++◌, length, Ok, Err, Some, None, false, slice_get, option_map};
-    ghost use Rattle.od_model.specs.declared.object.SessionState.{SessionState as State};
-    ghost use Rattle.od_model.specs.declared.grammar.Head.{Head as Headed};
-    ghost use Rattle.od_model.specs.declared.history.Command.TheVariants.{AddDoc as AsksAdd, OpenSession as AsksOpen, Step as AsksStep, Resume as AsksResume, Release as AsksRelease, Settle as AsksSettle};
-    ghost use Rattle.od_model.specs.declared.history.Refusal.TheVariants.{Full};
+    ghost use Rattle.od_model.specs.declared.object.SessionState.{SessionState};
+    ghost use Rattle.od_model.specs.declared.grammar.Head.{Head};
     ghost use Rattle.od_model.specs.Document.Faults.{doc_fault};
     ghost use Rattle.od_model.specs.Document.Reading.{Reads};
     ghost use Rattle.od_model.specs.Lists.{Each};
@@ -122,12 +134,12 @@ impl Store {
     fn is_full(&self, size: u32) -> bool
         ensures { result ≡ is_full self.now size }
     {
-        100_000 <= self.docs.len() || 134_217_728 < self.bytes + size as u64
+        MOST_DOCUMENTS <= self.docs.len() || MOST_BYTES < self.bytes + size as u64
     }
 
     /// The refusal of a document where there is no room.
     fn full(&self) -> Refusal
-        ensures { result ≡ Full (length self.now.docs) (size_of self.now.docs) }
+        ensures { result ≡ Refusal.Full (length self.now.docs) (size_of self.now.docs) }
     {
         Refusal::Full {
             documents: self.docs.len() as u32,
@@ -138,7 +150,7 @@ impl Store {
     /// The place of the session of a name.
     fn place(&self, name: &Text) -> Option<usize>
         ensures { MatchOption result (session_of name.now self.now.sessions ≡ None)
-            (λ i. (s : State) × (slice_get self.now.sessions i ≡ Some s) × (session_of name.now self.now.sessions ≡ Some s)) }
+            (λ i. (s : SessionState) × (slice_get self.now.sessions i ≡ Some s) × (session_of name.now self.now.sessions ≡ Some s)) }
     {
         self.session_names.place(name)
     }
@@ -146,7 +158,7 @@ impl Store {
     /// The place of the session of a name, where the caller holds it, or why not.
     fn held(&self, caller: u32, name: &Text) -> Result<usize, Refusal>
         ensures { MatchResult result
-            (λ i. (s : State) × (slice_get self.now.sessions i ≡ Some s) × (session_of name.now self.now.sessions ≡ Some s) × (held self.now caller name.now ≡ Ok s))
+            (λ i. (s : SessionState) × (slice_get self.now.sessions i ≡ Some s) × (session_of name.now self.now.sessions ≡ Some s) × (held self.now caller name.now ≡ Ok s))
             (λ refusal. held self.now caller name.now ≡ Err refusal) }
     {
         let Some(i) = self.place(name) else {
@@ -167,7 +179,7 @@ impl Store {
     /// One round more of the session, where the caller holds it.
     fn answer_step(&mut self, alloc: Global, caller: u32, name: &Text) -> Result<Reply, NoMemory>
         ensures replies { IfOk result (λ reply. reply ≡ reply_step self.old (held self.old caller name.now)) }
-        ensures effect { IfOk result (λ reply. (heads : Seq Headed) → self.new ≡ effect_of heads self.old caller (AsksStep name.now) reply) }
+        ensures effect { IfOk result (λ reply. (heads : Seq Head) → self.new ≡ effect_of heads self.old caller (Command.Step name.now) reply) }
         ensures err { OnErr result (self.new ≡ self.old) }
     {
         let i = match self.held(caller, name) {
@@ -182,13 +194,14 @@ impl Store {
     /// The caller holds the session afterwards, where nobody held it and its grammar is one of the script's.
     fn answer_resume(&mut self, heads: &[Head], caller: u32, name: &Text) -> Reply
         ensures replies { result ≡ reply_resume heads.now (session_of name.now self.old.sessions) }
-        ensures effect { self.new ≡ effect_of heads.now self.old caller (AsksResume name.now) result }
+        ensures effect { self.new ≡ effect_of heads.now self.old caller (Command.Resume name.now) result }
     {
         let Some(i) = self.place(name) else {
             return Reply::Refused(Refusal::NoSession);
         };
         let session = &mut self.sessions[i];
-        if let Some(owner) = session.state().holder {
+        let holder = session.state().holder;
+        if let Some(owner) = holder {
             return Reply::Refused(Refusal::Busy { owner });
         }
         if !is_known(heads, session.state()) {
@@ -211,7 +224,7 @@ impl Store {
     /// Nobody holds the session afterwards, where the caller held it.
     fn answer_release(&mut self, caller: u32, name: &Text) -> Reply
         ensures replies { result ≡ reply_release (held self.old caller name.now) }
-        ensures effect { (heads : Seq Headed) → self.new ≡ effect_of heads self.old caller (AsksRelease name.now) result }
+        ensures effect { (heads : Seq Head) → self.new ≡ effect_of heads self.old caller (Command.Release name.now) result }
     {
         let i = match self.held(caller, name) {
             Ok(i) => i,
@@ -267,20 +280,20 @@ impl Store {
     ) -> Result<Reply, NoMemory>
         requires { Each IsQueryHead heads.now }
         ensures replies { IfOk result (λ reply. reply ≡ reply_open heads.now self.old name.now grammar.now limit) }
-        ensures effect { IfOk result (λ reply. self.new ≡ effect_of heads.now self.old caller (AsksOpen name.now grammar.now limit) reply) }
+        ensures effect { IfOk result (λ reply. self.new ≡ effect_of heads.now self.old caller (Command.OpenSession name.now grammar.now limit) reply) }
         ensures err { OnErr result (self.new ≡ self.old) }
     {
         let Some(head) = head_of(heads, grammar) else {
             return Ok(Reply::Refused(Refusal::NoGrammar));
         };
-        if limit < 1 || 100 < limit {
+        if limit < 1 || MOST_ROUNDS < limit {
             return Ok(Reply::Refused(Refusal::BadLimit { limit }));
         }
         if self.has_session(name) {
             return Ok(Reply::Refused(Refusal::Taken));
         }
         let count = self.sessions.len();
-        if 128 <= count {
+        if MOST_SESSIONS <= count {
             return Ok(Reply::Refused(Refusal::NoRoom {
                 count: count as u32,
             }));
@@ -301,7 +314,7 @@ impl Store {
     ) -> Result<Reply, NoMemory>
         requires { MatchResult read (λ doc. Reads name.now body.now doc) (λ fault. doc_fault body.now ≡ Some fault) }
         ensures replies { IfOk result (λ reply. reply ≡ reply_doc self.old name.now body.now) }
-        ensures effect { IfOk result (λ reply. (heads : Seq Headed) (caller : ℕ) → self.new ≡ effect_of heads self.old caller (AsksAdd name.now body.now) reply) }
+        ensures effect { IfOk result (λ reply. (heads : Seq Head) (caller : ℕ) → self.new ≡ effect_of heads self.old caller (Command.AddDoc name.now body.now) reply) }
         ensures err { OnErr result (self.new ≡ self.old) }
     {
         let doc = match read {
@@ -327,7 +340,7 @@ impl Store {
     /// The document that the bytes are, which is committed afterwards.
     fn answer_doc(&mut self, alloc: Global, name: &Text, body: &Bytes) -> Result<Reply, NoMemory>
         ensures replies { IfOk result (λ reply. reply ≡ reply_doc self.old name.now body.now) }
-        ensures effect { IfOk result (λ reply. (heads : Seq Headed) (caller : ℕ) → self.new ≡ effect_of heads self.old caller (AsksAdd name.now body.now) reply) }
+        ensures effect { IfOk result (λ reply. (heads : Seq Head) (caller : ℕ) → self.new ≡ effect_of heads self.old caller (Command.AddDoc name.now body.now) reply) }
         ensures err { OnErr result (self.new ≡ self.old) }
     {
         let read = match read_doc(alloc, name.get(), body.get()) {
@@ -340,7 +353,7 @@ impl Store {
 
     /// All sentences in one segment, or no segment where there is none.
     fn answer_settle(&self, alloc: Global) -> Result<Reply, NoMemory>
-        ensures { IfOk result (λ reply. (heads : Seq Headed) (caller : ℕ) → Replies heads self.now caller AsksSettle reply) }
+        ensures { IfOk result (λ reply. (heads : Seq Head) (caller : ℕ) → Replies heads self.now caller Command.Settle reply) }
     {
         let mut sizes = List::new(alloc);
         if self.sentences > 0 {

@@ -49,6 +49,7 @@ module _ {X : Type 0} (f : X → List ℕ) (name : List ℕ) (names : List (List
 -- ## One session more
 
 module _ (docs : List Doc) (doc_names : List (List ℕ)) (bytes sentences : ℕ) (sessions : List SessionState) (session_names : List (List ℕ)) (h : IsKept docs doc_names bytes sentences sessions session_names) where
+  -- of a new name, where there is room
   pub kept-session : (name : List ℕ) (s : SessionState) → s.name ≡ name → list_any (is_named name) sessions ≡ false → length sessions < 128 → IsKept docs doc_names bytes sentences (sessions ++ s ∷ []) (session_names ++ name ∷ [])
   kept-session name s is free room = record {
     doc_names_are = h.doc_names_are;
@@ -64,10 +65,12 @@ module _ (docs : List Doc) (doc_names : List (List ℕ)) (bytes sentences : ℕ)
 
   -- ## One document more
 
+  -- sentences are no more than they weigh
   few-sentences : (ss : List Sentence) → length ss ≤ weight_of ss
   few-sentences [] = omega arith
   few-sentences (s ∷ ss) = omega (arith, few-sentences ss)
 
+  -- where the documents are not full
   pub kept-doc : (doc : Doc) → is_full (record { docs = docs; sessions = sessions }) doc.size ≡ false → IsKept (docs ++ doc ∷ []) (doc_names ++ doc.name ∷ []) (bytes + doc.size) (sentences + length doc.sentences) sessions session_names
   kept-doc doc room =
       let parts = or_parts (nat_le 100000 (length docs)) (nat_lt 134217728 (size_of docs + doc.size)) room in

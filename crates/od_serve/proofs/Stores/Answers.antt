@@ -14,6 +14,7 @@ use Rattle.od_model.specs.Object.Replies.{reply_resume, reply_unheld}
 abbrev pub resumed : SessionState → Reply
 resumed s = Resumed s.documents s.limit (length s.rounds) (length (joined s.rounds)) (phase_with s s.rounds)
 
+-- that answer is the one to a session that nobody holds and whose grammar is known
 pub replies-resumed : (heads : List Head) (caller : ℕ) (name : List ℕ) (sessions : List SessionState) (s taken : SessionState) (reply : Reply) → session_of name sessions ≡ Some s → s.holder ≡ None → is_known heads s ≡ true
     → taken ≡ taken_by caller s → reply ≡ resumed taken → reply ≡ reply_resume heads (session_of name sessions)
 replies-resumed heads caller name sessions s taken reply found free known takes is = is ∙ ap resumed takes

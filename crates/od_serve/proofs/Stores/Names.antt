@@ -9,13 +9,14 @@ use Rattle.std.specs.declared.cmp.Ordering.TheVariants.{Less, Equal, Greater}
 use Rattle.std.specs.String.{string_cmp}
 use Rattle.std.proofs.lemmas.Iterator.Adapters.{position_from-zero}
 use Rattle.std.proofs.lemmas.Bool.{ne_eqb}
-use Rattle.std.proofs.lemmas.Slice.Eq.{bytes_eq-Decides}
 use Rattle.od_model.specs.Lists.{Each}
+use Rattle.od_model.proofs.Objects.Names.{same-name}
 use Rattle.od_serve.specs.Stores.Names.{name_at, names_below, listed, IsNumbered}
 
 -- ## Places in a list
 
-pub position_from-push_other : {X : Type 0} (t : X → Bool) (i : ℕ) (xs : List X) (x : X) → t x ≡ false → position_from t i (xs ++ x ∷ []) ≡ position_from t i xs
+-- one element more that does not pass
+position_from-push_other : {X : Type 0} (t : X → Bool) (i : ℕ) (xs : List X) (x : X) → t x ≡ false → position_from t i (xs ++ x ∷ []) ≡ position_from t i xs
 position_from-push_other t i [] x h = ap (λ b. cond b (Some i) None) h
 position_from-push_other t i (y ∷ xs) x h = ap (λ r. cond (t y) (Some i) r) (position_from-push_other t (i + 1) xs x h)
 
@@ -24,17 +25,15 @@ push_here : {X : Type 0} (t : X → Bool) (i : ℕ) (xs : List X) (x : X) (b : B
 push_here t i xs x true more e = absurd (cc)
 push_here t i xs x false more e = more e
 
-pub position_from-push : {X : Type 0} (t : X → Bool) (i : ℕ) (xs : List X) (x : X) → position_from t i xs ≡ None → t x ≡ true → position_from t i (xs ++ x ∷ []) ≡ Some (i + length xs)
+-- one element more, which is the first that passes
+position_from-push : {X : Type 0} (t : X → Bool) (i : ℕ) (xs : List X) (x : X) → position_from t i xs ≡ None → t x ≡ true → position_from t i (xs ++ x ∷ []) ≡ Some (i + length xs)
 position_from-push t i [] x none h = ap (λ b. cond b (Some i) None) h ∙ ap Some (omega arith)
 position_from-push t i (y ∷ xs) x none h = push_here t i xs x (t y) (λ e. position_from-push t (i + 1) xs x e h) none ∙ ap Some (omega arith)
-
-same_name : (a b : List ℕ) → bytes_eq a b ≡ true → a ≡ b
-same_name a b h = (bytes_eq-Decides a b).0 h
 
 -- a look-up after one more name
 found_push : (names : List (List ℕ)) (name : List ℕ) → position_from (λ other. bytes_eq other name) 0 names ≡ None → (q : List ℕ) (b : Bool) → bytes_eq name q ≡ b
     → cond b (Some (length names)) (position_from (λ other. bytes_eq other q) 0 names) ≡ position_from (λ other. bytes_eq other q) 0 (names ++ name ∷ [])
-found_push names name none q true e = sym (position_from-push (λ other. bytes_eq other q) 0 names name (subst (λ n. position_from (λ other. bytes_eq other n) 0 names ≡ None) (same_name name q e) none) e ∙ ap Some (omega arith))
+found_push names name none q true e = sym (position_from-push (λ other. bytes_eq other q) 0 names name (subst (λ n. position_from (λ other. bytes_eq other n) 0 names ≡ None) (same-name name q e) none) e ∙ ap Some (omega arith))
 found_push names name none q false e = sym (position_from-push_other (λ other. bytes_eq other q) 0 names name e)
 
 -- ## The names of places
@@ -73,6 +72,7 @@ module _ {Y : Type 0} where
   at_new v n key above (e ∷ es) below none = let first = below.0 in
       new_past v key e es (string_cmp key e.0) (apart e.1 v (omega arith)) (λ h. at_new v n key above es below.1 h) none
 
+  -- a new key that is put above the first n places leaves their names
   names_put : (n v : ℕ) (key : String Y) → n ≤ v → (es : List (String Y × ℕ)) → lookup (is_at (string_cmp key)) es ≡ None → names_below n (insert_entry string_cmp es key v) ≡ names_below n es
   names_put zero v key above es none = refl
   names_put (suc n) v key above es none = ap₂ (λ ns name. ns ++ name ∷ []) (names_put n v key (omega arith) es none) (at_other n v key (apart_above n v (omega arith)) es none)
@@ -87,6 +87,7 @@ module _ {Y : Type 0} where
   below_weaker n m less [] h = tt
   below_weaker n m less (e ∷ es) h = let first = h.0 in (omega arith, below_weaker n m less es h.1)
 
+  -- all places stay below a bound
   below_put : (n m v : ℕ) (key : String Y) → n ≤ m → v < m → (es : List (String Y × ℕ)) → Each (λ x. x.1 < n) es → Each (λ x. x.1 < m) (insert_entry string_cmp es key v)
   below_put n m v key less here [] h = (here, tt)
   below_put n m v key less here (e ∷ es) h = below_past n m v key e es (string_cmp key e.0) less here h (below_weaker n m less es h.1) (below_put n m v key less here es h.1)
@@ -98,6 +99,7 @@ module _ {Y : Type 0} where
       (ap (names_below (length es)) is ∙ names_put (length es) (length es) key (omega arith) es none)
       (ap (name_at (length es)) is ∙ at_new (length es) (length es) key (omega arith) es h.below none)
 
+  -- as many names as places
   length_below : (n : ℕ) (es : List (String Y × ℕ)) → length (names_below n es) ≡ n
   length_below zero es = refl
   length_below (suc n) es = length-append (names_below n es) (name_at n es ∷ []) ∙ ap (λ k. k + 1) (length_below n es) ∙ add-one n

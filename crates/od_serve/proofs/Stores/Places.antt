@@ -35,6 +35,7 @@ position_from-map : {X Y : Type 0} (p : Y → Bool) (f : X → Y) (n : ℕ) (xs 
 position_from-map p f n [] = refl
 position_from-map p f n (x ∷ xs) = ap (λ r. cond (p (f x)) (Some n) r) (position_from-map p f (n + 1) xs)
 
+-- the first place among mapped elements
 pub position-map : {X Y : Type 0} (p : Y → Bool) (f : X → Y) (xs : List X) → position p (map f xs) ≡ position (λ x. p (f x)) xs
 position-map p f xs = position_from-zero p (map f xs) ∙ position_from-map p f 0 xs ∙ sym (position_from-zero (λ x. p (f x)) xs)
 

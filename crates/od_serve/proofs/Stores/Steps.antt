@@ -70,9 +70,11 @@ phase-docs o s Finished = refl
 phase-docs o s AtLimit = refl
 phase-docs o s Going = refl
 
+-- so the answer to a step does
 pub step-docs : (o : OneThread) (s : SessionState) → reply_step o (Ok s) ≡ step_reply o.docs s
 step-docs o s = phase-docs o s (phase_with s s.rounds)
 
+-- a step keeps the name
 pub after_step-name : (docs : List Doc) (s : SessionState) (reply : Reply) → (after_step docs s reply).name ≡ s.name
 after_step-name docs s (Stepped round added phase) = refl
 after_step-name docs s reply = refl
@@ -81,6 +83,7 @@ same : (s : SessionState) (b : Bool) → cond b s s ≡ s
 same s true = refl
 same s false = refl
 
+-- a change that is none
 change-same : (name : List ℕ) (sessions : List SessionState) → change name (λ s. s) sessions ≡ sessions
 change-same name [] = refl
 change-same name (s ∷ sessions) = ap₂ (λ (t : SessionState) (l : List SessionState). t ∷ l) (same s (is_named name s)) (change-same name sessions)

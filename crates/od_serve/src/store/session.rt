@@ -1,9 +1,6 @@
 //! A session that runs.
 ghost use Rattle.std.specs.Prelude.{◌≡◌, ◌<◌, ◌≤◌, List as Seq, [], ◌∷◌, ◌++◌, length, MatchResult, IfOk, OnOk, OnErr, Ok, Err, Some};
-ghost use Rattle.od_model.specs.declared.doc.Doc.{Doc as Document};
-ghost use Rattle.od_model.specs.declared.mention.RoundResult.TheVariants.{Found};
-ghost use Rattle.od_model.specs.declared.history.Phase.TheVariants.{Going};
-ghost use Rattle.od_model.specs.declared.history.Reply.TheVariants.{Resumed};
+ghost use Rattle.od_model.specs.declared.doc.Doc.{Doc};
 ghost use Rattle.od_model.specs.Grammars.Query.{grammar_of, query_grammar};
 ghost use Rattle.od_model.specs.Rounds.Round.{joined};
 ghost use Rattle.od_model.specs.Object.Parts.{phase_with, round_at};
@@ -127,7 +124,7 @@ impl Session {
 
     /// The answer to a resume that was taken.
     pub fn resumed(&self) -> Reply
-        ensures { result ≡ Resumed self.now.documents self.now.limit (length self.now.rounds) (length (joined self.now.rounds)) (phase_with self.now self.now.rounds) }
+        ensures { result ≡ Reply.Resumed self.now.documents self.now.limit (length self.now.rounds) (length (joined self.now.rounds)) (phase_with self.now self.now.rounds) }
     {
         Reply::Resumed {
             documents: self.state.documents,
@@ -183,9 +180,9 @@ impl Session {
 
     /// Adds what the next round found, and answers so.
     fn add_round(&mut self, alloc: Global, new: List<Mention>) -> Result<Reply, NoMemory>
-        requires found { (docs : Seq Document) × (round_at docs self.old ≡ Found new) }
-        requires going { phase_with self.old self.old.rounds ≡ Going }
-        ensures replies { IfOk result (λ reply. reply ≡ reply_round self.old (Found new)) }
+        requires found { (docs : Seq Doc) × (round_at docs self.old ≡ RoundResult.Found new) }
+        requires going { phase_with self.old self.old.rounds ≡ Phase.Going }
+        ensures replies { IfOk result (λ reply. reply ≡ reply_round self.old (RoundResult.Found new)) }
         ensures effect { OnOk result (self.new ≡ record self.old { rounds = self.old.rounds ++ new ∷ [] }) }
         ensures err { OnErr result (self.new ≡ self.old) }
     {

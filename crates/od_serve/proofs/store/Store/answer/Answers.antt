@@ -1,8 +1,4 @@
-use Rattle.std.proofs.Common.{◌≡◌}
 use Rattle.std.proofs.lemmas.Result.{IfOk-weaker}
-use Rattle.od_model.specs.declared.history.Reply.{Reply}
-use Rattle.od_model.specs.Object.Effects.{effect_of}
-use Rattle.od_model.specs.Object.Replies.{Replies}
 use Rattle.od_serve.proofs.store.Store.answer.Goals as goal
 
 pub returns-in-AddDoc-clause-effect : goal.returns-in-AddDoc-clause-effect
