@@ -1,5 +1,5 @@
 -- One client more.
-use Rattle.std.proofs.Common.{◌≡◌, ℕ, zero, suc, ◌+◌, ◌<◌, ◌≤◌, List, [], ◌∷◌, ◌++◌, length, take, drop, get_or, refl, sym, ap, ap₂, ◌∙◌, subst, arith, length-append}
+use Rattle.std.proofs.Common.{◌≡◌, ℕ, zero, suc, ◌+◌, ◌<◌, ◌≤◌, List, [], ◌∷◌, ◌++◌, length, take, drop, get_or, sym, ap, ap₂, ◌∙◌, subst, arith, length-append}
 use Rattle.std.proofs.lemmas.List.{take_more, take-append-drop}
 use Rattle.od_model.specs.declared.history.Entry.{Entry}
 use Rattle.od_model.specs.declared.script.Order.{Order}
@@ -7,9 +7,9 @@ use Rattle.od_model.specs.Lists.{Each}
 use Rattle.od_model.specs.History.Legal.{mine}
 use Rattle.od_model.specs.History.Orders.{Follows, Begins}
 use Rattle.od_model.specs.Run.Clients.{EachClient, OfClients}
-use Rattle.od_model.proofs.Lists.{Each-append, Each-weaker}
+use Rattle.od_model.proofs.Lists.{Each-append}
 use Rattle.od_model.proofs.Histories.Callers.{AreOf, EachFrom, EachFrom-append, EachFrom-later, EachFrom-begun, EachFrom-none, each-client, mine-next, mine-new}
-use Rattle.od_serve.specs.Running.Told.{Further, GoesFurther}
+use Rattle.od_serve.specs.Running.Told.{GoesFurther}
 
 -- the callers of the entries are numbered from 1 up to a number
 abbrev pub CallersTo : ℕ → List Entry → Type 0

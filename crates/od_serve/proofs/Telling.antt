@@ -1,5 +1,5 @@
 -- One entry more in a run.
-use Rattle.std.proofs.Common.{◌≡◌, ℕ, ◌+◌, ◌<◌, ◌≤◌, List, [], ◌∷◌, ◌++◌, length, Option, refl, sym, ap, ◌∙◌, subst, append_assoc, append-nil, inl, inr, ◌⊎◌, arith, length-append}
+use Rattle.std.proofs.Common.{◌≡◌, ℕ, ◌+◌, List, [], ◌∷◌, ◌++◌, length, Option, refl, sym, ap, ◌∙◌, subst, append_assoc, append-nil, inl, inr, ◌⊎◌, arith, length-append}
 use Rattle.std.specs.Io.KnownBytes.{Appends}
 use Rattle.std.proofs.KnownBytes.{Appends-trans, Appends-nil}
 use Rattle.od_io.specs.Streams.Writing.{AppendsProperPrefix}
@@ -16,14 +16,14 @@ use Rattle.od_model.specs.declared.object.OneThread.{OneThread}
 use Rattle.od_model.specs.Object.Parts.{nothing}
 use Rattle.od_model.specs.Object.Replies.{Replies}
 use Rattle.od_model.specs.Object.Effects.{effect_of, effect}
-use Rattle.od_model.specs.History.Legal.{state_after, mine, IsNext, Legal}
+use Rattle.od_model.specs.History.Legal.{state_after, mine, Legal}
 use Rattle.od_model.specs.Lines.Entries.{own_line}
 use Rattle.od_model.specs.History.Lines.{entry_lines, lines_before, Lines}
-use Rattle.od_model.specs.Run.Outcome.{IsCutShort, IsWritten}
+use Rattle.od_model.specs.Run.Outcome.{IsCutShort}
 use Rattle.od_model.proofs.Histories.Steps.{state_after-start, state_after-snoc, Legal-snoc, Lines-snoc}
 use Rattle.od_model.specs.declared.history.Command.TheVariants.{AddDoc, OpenSession, Step, Resume, Print, Release, Settle}
 use Rattle.od_model.specs.Lists.{Each}
-use Rattle.od_model.specs.History.Orders.{GoesOn, IsGoing, Follows, Begins}
+use Rattle.od_model.specs.History.Orders.{GoesOn, Follows, Begins}
 use Rattle.od_model.specs.Script.Runnable.{IsQuery}
 use Rattle.od_model.proofs.Runnable.{accepted-of}
 use Rattle.od_model.proofs.Histories.Steps.{Legal-at}
@@ -32,7 +32,7 @@ use Rattle.od_model.proofs.Histories.Climbs.{list_count, step-climbs}
 use Rattle.od_model.proofs.Lists.{Each-append}
 use Rattle.od_model.proofs.Histories.Orders.{Follows-one, Follows-run, IsGoing-snoc, Begins-none, Follows-after, Begins-after, Follows-begun}
 use Rattle.od_model.proofs.Histories.Callers.{mine-append, mine-own}
-use Rattle.od_serve.specs.Running.Told.{IsTold, IsReached, OneMore, AtMostOne, none, one, Further, GoesFurther, StepsOn, GoesOnSteps}
+use Rattle.od_serve.specs.Running.Told.{IsReached, OneMore, AtMostOne, none, one, GoesFurther, GoesOnSteps}
 
 module _ (heads : List Head) (history : List Entry) (object : OneThread) (e : Entry) where
   -- what the object answers may come next

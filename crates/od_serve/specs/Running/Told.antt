@@ -1,5 +1,5 @@
 -- How far a run has come, as the contracts of its parts speak of it.
-use Rattle.std.specs.Prelude.{◌≡◌, ℕ, ◌+◌, ◌*◌, ◌≤◌, List, [], ◌∷◌, ◌++◌, length, Option}
+use Rattle.std.specs.Prelude.{◌≡◌, ℕ, List, [], ◌∷◌, ◌++◌, Option}
 use Rattle.od_model.specs.declared.grammar.Head.{Head}
 use Rattle.od_model.specs.declared.history.Command.{Command}
 use Rattle.od_model.specs.declared.history.Entry.{Entry}
@@ -8,7 +8,7 @@ use Rattle.od_model.specs.declared.object.OneThread.{OneThread}
 use Rattle.od_model.specs.Lists.{Each}
 use Rattle.od_model.specs.Object.Parts.{nothing}
 use Rattle.od_model.specs.History.Legal.{state_after, Legal}
-use Rattle.od_model.specs.History.Orders.{IsGoing, Follows}
+use Rattle.od_model.specs.History.Orders.{IsGoing}
 use Rattle.od_model.specs.Run.Outcome.{IsCutShort, IsWritten}
 use Rattle.od_serve.specs.declared.run.Stop.{Stop}
 use Rattle.od_serve.specs.declared.run.Stop.TheVariants.{WriteFault, NoMemory}

@@ -1,14 +1,12 @@
-use Rattle.std.proofs.Common.{◌≡◌, ◌∙◌, ◌+◌, ℕ, List, [], ◌∷◌, ◌++◌, length, take, drop, sym, ap, ap₂, subst, arith, ◌≤◌, ◌<◌, length-append, get_or, Some, slice_get}
-use Rattle.std.proofs.lemmas.List.{take_more, take-append-drop, map-id}
+use Rattle.std.proofs.Common.{◌≡◌, ◌∙◌, ◌+◌, List, [], ◌∷◌, ◌++◌, length, drop, sym, ap, subst, arith, ◌≤◌, length-append}
+use Rattle.std.proofs.lemmas.List.{map-id}
 use Rattle.std.proofs.lemmas.Iterator.Adapters.{YieldsList-from_vec}
 use Rattle.std.proofs.lemmas.Iterator.Consumers.{YieldsList-turn, YieldsList-so_far, YieldsList-end}
 use Rattle.od_model.specs.declared.script.Order.{Order}
-use Rattle.od_model.specs.Lists.{Each}
 use Rattle.od_model.specs.History.Orders.{Follows, Begins}
 use Rattle.od_model.specs.Run.Clients.{EachClient, OfClients}
-use Rattle.od_model.proofs.Histories.Callers.{EachFrom}
 use Rattle.od_serve.proofs.clients.run_clients.Goals as goal
-use Rattle.od_serve.proofs.ClientLemmas.{CallersTo, fresh-caller, callers-more, clients-more, clients-cut, of-clients, clients-whole, each-place, split_at}
+use Rattle.od_serve.proofs.ClientLemmas.{fresh-caller, callers-more, clients-more, clients-cut, of-clients, clients-whole, each-place, split_at}
 
 pub run_client-requires : goal.run_client-requires
 run_client-requires g c κs within =

@@ -1,4 +1,4 @@
-use Rattle.std.proofs.Common.{◌≡◌, ℕ, ◌+◌, ◌*◌, ◌≤◌, length}
+use Rattle.std.proofs.Common.{◌≡◌, ◌+◌, ◌*◌, ◌≤◌, length}
 use Rattle.od_model.specs.History.Legal.{mine}
 use Rattle.od_model.specs.History.Orders.{Follows}
 use Rattle.od_serve.specs.Running.Told.{IsReached, GoesFurther}

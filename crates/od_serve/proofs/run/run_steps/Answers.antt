@@ -1,7 +1,7 @@
-use Rattle.std.proofs.Common.{◌≡◌, ◌+◌, [], ◌∷◌, ◌++◌, sym, subst, arith, ◌≤◌}
+use Rattle.std.proofs.Common.{◌+◌, [], ◌∷◌, ◌++◌, subst, arith}
 use Rattle.od_model.specs.declared.history.Command.TheVariants.{Step}
 use Rattle.od_model.specs.History.Orders.{GoesOn}
-use Rattle.od_model.proofs.Histories.Climbs.{list_count, list_count-few}
+use Rattle.od_model.proofs.Histories.Climbs.{list_count-few}
 use Rattle.od_serve.specs.Running.Told.{IsReached, OneMore, AtMostOne}
 use Rattle.od_serve.proofs.run.run_steps.Goals as goal
 use Rattle.od_serve.proofs.Telling.{reached-sound, reached-climbs, next-call, steps-more, steps-cut}

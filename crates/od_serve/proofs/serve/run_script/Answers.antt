@@ -1,4 +1,4 @@
-use Rattle.std.proofs.Common.{◌≡◌, List, Option, ℕ, sym, subst, ap, ◌∙◌}
+use Rattle.std.proofs.Common.{List, sym, subst, ap, ◌∙◌}
 use Rattle.od_model.specs.declared.grammar.Head.{Head}
 use Rattle.od_model.specs.Lists.{Each}
 use Rattle.od_model.specs.Object.Parts.{nothing}

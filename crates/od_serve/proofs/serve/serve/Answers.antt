@@ -1,4 +1,4 @@
-use Rattle.std.proofs.Common.{◌≡◌, Err, refl, ap, inl, inr}
+use Rattle.std.proofs.Common.{Err, refl, ap, inl, inr}
 use Rattle.od_model.proofs.Runnable.{script-runnable}
 use Rattle.od_serve.proofs.serve.serve.Goals as goal
 use Rattle.od_serve.proofs.Outcomes.{long-is-no-script}
