@@ -1,7 +1,7 @@
 //! Reading a script. These are its lines, each ended by a line feed, and nothing else:
 //!
 //! ```text
-//! query NAME W1 .. Wn     1 to 16 words, one space between two
+//! query NAME WORD ..      1 to 16 words, one space between two
 //! client
 //! doc D N                 then N lines of any bytes, the document
 //! open S NAME LIMIT       the NAME of the query, a LIMIT of 1 to 100 rounds
@@ -131,7 +131,7 @@ fn number(text: &[u8]) -> Option<u32>
     digits(text)
 }
 
-/// The name and the text of the query in `query NAME W1 .. Wn`.
+/// The name and the text of the query in `query NAME WORD WORD ..`.
 fn query_line(line: &[u8]) -> Option<(&str, &str)>
     ensures { query_line line.now ≡ option_map head_shown result }
 {

@@ -10,6 +10,7 @@ use Rattle.od_model.specs.Object.Effects.{change}
 use Rattle.od_model.proofs.Lists.{Each-weaker, EachPoint-snoc}
 use Rattle.od_model.proofs.Objects.Names.{behind, or_from_left, or_from_right, session-unique, change-same}
 
+-- a name is the same as itself
 pub name-itself : (a : List ℕ) → bytes_eq a a ≡ true
 name-itself a = (bytes_eq-Decides a a).1 refl
 
@@ -61,6 +62,7 @@ placed name seen (x ∷ xs) (suc i) s h at n = placed-past name x s xs i (is_nam
     (λ is. none-at name xs i s (behind name (seen ++ x ∷ []) xs (seen-passed name seen x is) h.1) at n)
     (placed name (seen ++ x ∷ []) xs i s h.1 at n)
 
+-- among sessions of different names, one of the name is so placed
 pub session-placed : (name : List ℕ) (sessions : List SessionState) (i : ℕ) (s : SessionState) → Distinct sessions → slice_get sessions i ≡ Some s → s.name ≡ name → IsPlaced name sessions i s
 session-placed name sessions i s distinct at n = placed name [] sessions i s distinct at n
 

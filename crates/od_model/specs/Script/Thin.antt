@@ -48,7 +48,7 @@ block_of (line ∷ lines) = line ++ 10 ∷ block_of lines
 abbrev pub at_space : List ℕ → Option (List ℕ × List ℕ)
 at_space text = if nat_lt (position_or_len (λ b. b == 32) text) (length text) then Some (before_first (λ b. b == 32) text, after_first (λ b. b == 32) text) else None
 
--- `query NAME W1 .. Wn`
+-- `query NAME WORD WORD ..`
 abbrev pub query_named : Option (List ℕ × List ℕ) → Option Head
 query_named None = None
 query_named (Some (name, text)) = if is_name name && is_word_query text then Some (record { name = name; kind = Query; text = text }) else None
