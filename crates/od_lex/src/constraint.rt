@@ -164,7 +164,6 @@ fn value(
 }
 
 /// A plain value of a field; for norms it is folded.
-#[tactic(auto, unfolding(od_model::specs::Pattern::Fields::folded))]
 fn plain(alloc: Global, field: Field, text: &Text) -> Result<Value, PatternFault>
     ensures { MatchResult result (λ v. v ≡ asked.Plain (compared_text field text.now)) (λ e. e ≡ PatternFault.NoMemory) }
 {

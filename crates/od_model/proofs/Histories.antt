@@ -1,5 +1,6 @@
 pub mod Callers
 pub mod Climbs
+pub mod Openings
 pub mod Orders
 pub mod Prints
 pub mod Sound

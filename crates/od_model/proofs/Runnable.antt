@@ -4,10 +4,11 @@ use Rattle.std.specs.Prelude.{nat_lt, bytes_eq, codes}
 use Rattle.od_model.specs.declared.grammar.Head.{Head}
 use Rattle.od_model.specs.declared.script.Script.{Script}
 use Rattle.od_model.specs.Lists.{Each}
+use Rattle.od_model.specs.Document.Columns.{split_once}
 use Rattle.od_model.specs.Grammars.Query.{grammar_of, query_grammar, is_word_query, words_of}
 use Rattle.od_model.specs.History.Prints.{IsAccepted}
 use Rattle.od_model.specs.Script.Runnable.{IsQuery, IsRunnable}
-use Rattle.od_model.specs.Script.Thin.{script_of, script_in, script_headed, script_block, script_behind, script_opened, script_with, query_line, query_begun, query_named, at_space, doc_words, open_words, block_of, parts_of, is_name, most_bytes}
+use Rattle.od_model.specs.Script.Thin.{script_of, script_in, script_headed, script_block, script_behind, script_opened, script_with, query_line, query_begun, query_named, doc_words, open_words, block_of, parts_of, is_name, most_bytes}
 
 -- the grammars of queries are accepted
 pub accepted-of : (heads : List Head) → Each IsQuery heads → Each IsAccepted heads
@@ -39,7 +40,7 @@ named (Some (name, text)) head e =
 
 begun : (found : Option (List ℕ × List ℕ)) (head : Head) → query_begun found ≡ Some head → IsQuery head
 begun None head e = absurd (cc)
-begun (Some (first, rest)) head e = let parts = passed-on (bytes_eq first (codes "query")) (query_named (at_space rest)) head e in named (at_space rest) head parts.1
+begun (Some (first, rest)) head e = let parts = passed-on (bytes_eq first (codes "query")) (query_named (split_once 32 rest)) head e in named (split_once 32 rest) head parts.1
 
 runnable-with : (head : Head) (name body session : List ℕ) (limit : ℕ) → IsQuery head → IsRunnable (script_with head name body session limit)
 runnable-with head name body session limit h = record { queries = (h, tt); few = omega arith; short = (omega arith, tt) }
@@ -67,7 +68,7 @@ headed None client doc lines script h e = absurd (cc)
 headed (Some head) client doc lines script h e = let parts = passed-on (bytes_eq client (codes "client")) _ script e in block head lines (doc_words (words_of doc)) script (h head refl) parts.1
 
 inside : (lines : List (List ℕ)) (script : Script) → script_in lines ≡ Some script → IsRunnable script
-inside (query ∷ client ∷ doc ∷ lines) script e = headed (query_line query) client doc lines script (λ h is. begun (at_space query) h is) e
+inside (query ∷ client ∷ doc ∷ lines) script e = headed (query_line query) client doc lines script (λ h is. begun (split_once 32 query) h is) e
 inside [] script e = absurd (cc)
 inside (a ∷ []) script e = absurd (cc)
 inside (a ∷ b ∷ []) script e = absurd (cc)

@@ -1,3 +1,4 @@
 pub mod Clients
+pub mod Ends
 pub mod Outcome
 pub mod Words

@@ -1,14 +1,14 @@
 -- One client more.
-use Rattle.std.proofs.Common.{◌≡◌, ℕ, zero, suc, ◌+◌, ◌<◌, ◌≤◌, List, [], ◌∷◌, ◌++◌, length, take, drop, get_or, sym, ap, ap₂, ◌∙◌, subst, arith, length-append}
+use Rattle.std.proofs.Common.{◌≡◌, ℕ, zero, suc, ◌+◌, ◌<◌, ◌≤◌, List, [], ◌∷◌, ◌++◌, length, take, drop, get_or, Bool, true, false, ◌&&◌, IsTrue, refl, sym, ap, ap₂, ◌∙◌, subst, arith, length-append}
 use Rattle.std.proofs.lemmas.List.{take_more, take-append-drop}
 use Rattle.od_model.specs.declared.history.Entry.{Entry}
 use Rattle.od_model.specs.declared.script.Order.{Order}
 use Rattle.od_model.specs.Lists.{Each}
 use Rattle.od_model.specs.History.Legal.{mine}
-use Rattle.od_model.specs.History.Orders.{Follows, Begins}
+use Rattle.od_model.specs.History.Orders.{Begins}
 use Rattle.od_model.specs.Run.Clients.{EachClient, OfClients}
 use Rattle.od_model.proofs.Lists.{Each-append}
-use Rattle.od_model.proofs.Histories.Callers.{AreOf, EachFrom, EachFrom-append, EachFrom-later, EachFrom-begun, EachFrom-none, each-client, mine-next, mine-new}
+use Rattle.od_model.proofs.Histories.Callers.{AreOf, EachFrom, EachFrom-append, EachFrom-later, EachFrom-none, each-client, mine-next, mine-new}
 use Rattle.od_serve.specs.Running.Told.{GoesFurther}
 
 -- the callers of the entries are numbered from 1 up to a number
@@ -44,10 +44,10 @@ clients-more U caller done orders old new is h each (more, k) =
     (subst (λ l. U orders l) (sym own) k.unfolds, tt))
 
 -- the clients after those that were run have no entry
-pub clients-cut : (caller : ℕ) (done : List (List Order)) (orders : List Order) (rest : List (List Order)) (old new : List Entry) → caller ≡ length done + 1 → CallersTo (length done) old → EachFrom Follows 0 done old → GoesFurther Begins caller orders old new
+pub clients-cut : (caller : ℕ) (done : List (List Order)) (orders : List Order) (rest : List (List Order)) (old new : List Entry) → caller ≡ length done + 1 → CallersTo (length done) old → EachFrom Begins 0 done old → GoesFurther Begins caller orders old new
     → EachClient Begins ((done ++ orders ∷ []) ++ rest) new
 clients-cut caller done orders rest old new is h each further =
-    let front = clients-more Begins caller done orders old new is h (EachFrom-begun 0 done old each) further in
+    let front = clients-more Begins caller done orders old new is h each further in
     let callers = callers-more Begins caller done orders old new is h further in
     let n : ℕ = length (done ++ orders ∷ []) in
     each-client Begins ((done ++ orders ∷ []) ++ rest) new
@@ -56,8 +56,10 @@ clients-cut caller done orders rest old new is h each further =
 pub of-clients : (done rest : List (List Order)) (history : List Entry) → CallersTo (length done) history → OfClients (done ++ rest) history
 of-clients done rest history h = wider (length done) (length (done ++ rest)) history (omega (arith, length-append done rest)) h
 
-pub clients-whole : (clients : List (List Order)) (history : List Entry) → EachFrom Follows 0 clients history → EachClient Follows clients history × EachClient Begins clients history
-clients-whole clients history h = (each-client Follows clients history h, each-client Begins clients history (EachFrom-begun 0 clients history h))
+-- what is true of both is true of each
+pub both-true : (a b : Bool) → IsTrue (a && b) → IsTrue a × IsTrue b
+both-true true b h = (refl, h)
+both-true false b h = absurd (cc)
 
 -- ## Places in a list that a loop goes through
 

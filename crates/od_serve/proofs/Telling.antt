@@ -9,19 +9,18 @@ use Rattle.od_model.specs.declared.history.Command.{Command}
 use Rattle.od_model.specs.declared.history.Phase.{Phase}
 use Rattle.od_model.specs.declared.history.Phase.TheVariants.{Going, Finished, AtLimit}
 use Rattle.od_model.specs.declared.history.Reply.{Reply}
-use Rattle.od_model.specs.declared.history.Reply.TheVariants.{Added, Opened, Stepped, Resumed, Printed, Released, Settled, Refused}
+use Rattle.od_model.specs.declared.history.Reply.TheVariants.{Stepped}
 use Rattle.od_model.specs.declared.script.Order.{Order}
 use Rattle.od_model.specs.declared.script.Order.TheVariants.{One, Run}
 use Rattle.od_model.specs.declared.object.OneThread.{OneThread}
 use Rattle.od_model.specs.Object.Parts.{nothing}
 use Rattle.od_model.specs.Object.Replies.{Replies}
-use Rattle.od_model.specs.Object.Effects.{effect_of, effect}
+use Rattle.od_model.specs.Object.Effects.{effect}
 use Rattle.od_model.specs.History.Legal.{state_after, mine, Legal}
-use Rattle.od_model.specs.Lines.Entries.{own_line}
-use Rattle.od_model.specs.History.Lines.{entry_lines, lines_before, Lines}
+use Rattle.od_model.specs.History.Lines.{entry_lines, Lines}
 use Rattle.od_model.specs.Run.Outcome.{IsCutShort}
 use Rattle.od_model.proofs.Histories.Steps.{state_after-start, state_after-snoc, Legal-snoc, Lines-snoc}
-use Rattle.od_model.specs.declared.history.Command.TheVariants.{AddDoc, OpenSession, Step, Resume, Print, Release, Settle}
+use Rattle.od_model.specs.declared.history.Command.TheVariants.{Step}
 use Rattle.od_model.specs.Lists.{Each}
 use Rattle.od_model.specs.History.Orders.{GoesOn, Follows, Begins}
 use Rattle.od_model.specs.Script.Runnable.{IsQuery}
@@ -67,27 +66,6 @@ module _ (heads : List Head) (history : List Entry) (object : OneThread) (e : En
       written = Appends-trans before now later (Lines nothing heads history) part h.told.written appends;
     },
   )
-
--- a print changes nothing, and no other command has mention lines
-kept-before : (heads : List Head) (o : OneThread) (caller : ℕ) (command : Command) (reply : Reply) → lines_before (effect_of heads o caller command reply) command reply ≡ lines_before o command reply
-kept-before heads o caller (AddDoc name body) reply = refl
-kept-before heads o caller (OpenSession name grammar limit) reply = refl
-kept-before heads o caller (Step name) reply = refl
-kept-before heads o caller (Resume name) reply = refl
-kept-before heads o caller (Print name) (Added documents) = refl
-kept-before heads o caller (Print name) (Opened documents limit) = refl
-kept-before heads o caller (Print name) (Stepped round added phase) = refl
-kept-before heads o caller (Print name) (Resumed documents limit round mentions phase) = refl
-kept-before heads o caller (Print name) (Printed round mentions phase) = refl
-kept-before heads o caller (Print name) Released = refl
-kept-before heads o caller (Print name) (Settled sizes) = refl
-kept-before heads o caller (Print name) (Refused refusal) = refl
-kept-before heads o caller (Release name) reply = refl
-kept-before heads o caller Settle reply = refl
-
--- the lines of an entry may be written over the object that it left
-pub lines-kept : (heads : List Head) (o after : OneThread) (e : Entry) → after ≡ effect heads o e → entry_lines after e ≡ entry_lines o e
-lines-kept heads o after e is = ap (λ x. entry_lines x e) is ∙ ap (λ l. l ++ own_line e) (kept-before heads o e.caller e.command e.reply)
 
 -- before any entry
 pub reached-none : (heads : List Head) (now : Option (List ℕ)) → IsReached heads [] nothing now now

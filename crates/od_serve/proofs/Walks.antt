@@ -19,7 +19,8 @@ use Rattle.od_model.proofs.Rounds.Weights.{weight-append, length-le-weight}
 use Rattle.od_model.proofs.Rounds.Walks.{walk-too_many, walk-append}
 use Rattle.od_serve.specs.declared.known.Known.{Known}
 use Rattle.od_serve.specs.Known.{IsComplete}
-use Rattle.od_serve.specs.Queries.{words_rule, words_items}
+use Rattle.od_model.specs.Grammars.Query.{words_rule}
+use Rattle.od_serve.specs.Queries.{words_items}
 use Rattle.od_serve.specs.Walks.{IsWeighed}
 use Rattle.od_serve.proofs.Notes.{NotesOne, place, complete_kept, complete_more}
 

@@ -3,6 +3,8 @@
 
 mod clients;
 mod cut;
+#[cfg(test)]
+mod examples;
 mod known;
 mod lines;
 mod names;

@@ -11,6 +11,7 @@ ghost use Rattle.od_model.specs.declared.script.Order.TheVariants.{Run};
 
 use crate::shown::entry_lines;
 use crate::store::Store;
+use crate::store::change::Answer;
 use od_io::{Sink, write_whole};
 use od_model::grammar::Head;
 use od_model::history::{Command, Entry, Phase, Reply};
@@ -37,6 +38,8 @@ fn goes_on(reply: &Reply) -> bool
 }
 
 /// Answers one command, and writes its lines. Gives whether a run goes on after the reply.
+///
+/// All memory is taken before anything changes: where it is refused, the object, the history and the sink stay as they were.
 fn tell<W: Sink>(
     alloc: Global,
     heads: &[Head],
@@ -53,14 +56,16 @@ fn tell<W: Sink>(
     requires call { call ≡ length (mine caller history.old.items) + 1 }
     ensures reached { OnOk result (IsReached heads.now history.new.items store.new before (W.written sink.new)) }
     ensures entry { IfOk result (λ goes. (e : Entry) × OneMore caller command history.old.items history.new.items e × (IsTrue goes ↔ GoesOn e.reply)) }
-    ensures ends { IfErr result (λ stop. EndsAt heads.now history.new.items before (W.written sink.new) stop) }
+    ensures ends { IfErr result (λ stop. EndsAt heads.now history.new.items store.new before (W.written sink.new) stop) }
     ensures part { OnErr result (AtMostOne caller command history.old.items history.new.items) }
+    ensures kept { IsErrOf result Stop.NoMemory → history.new.items ≡ history.old.items }
     ensures failed { IsErrOf result Stop.WriteFault → Rose (W.faults sink.old) (W.faults sink.new) }
     ensures later { W.faults sink.old ≤ W.faults sink.new }
 {
-    let Ok(reply) = store.answer(alloc, heads, caller, &command) else {
+    let Ok(answer) = store.answer(alloc, heads, caller, &command) else {
         return Err(Stop::NoMemory);
     };
+    let Answer { reply, change } = answer;
     let goes = goes_on(&reply);
     let entry = Entry {
         caller,
@@ -71,9 +76,13 @@ fn tell<W: Sink>(
     let Ok(lines) = entry_lines(alloc, store, &entry) else {
         return Err(Stop::NoMemory);
     };
-    let Ok(()) = history.push(entry) else {
+    let Ok(()) = history.reserve(1) else {
         return Err(Stop::NoMemory);
     };
+    let Ok(()) = store.change(alloc, change) else {
+        return Err(Stop::NoMemory);
+    };
+    history.push_reserved(entry);
     match write_whole(sink, lines.get()) {
         Ok(()) => Ok(goes),
         Err(_) => Err(Stop::WriteFault),
@@ -100,7 +109,7 @@ fn run_steps<W: Sink>(
     ensures call { IfOk result (λ next. next ≡ length (mine caller history.new.items) + 1) }
     ensures few { IfOk result (λ next. next ≤ call + 101) }
     ensures followed { OnOk result (GoesFurther Follows caller (Run name.now ∷ []) history.old.items history.new.items) }
-    ensures ends { IfErr result (λ stop. EndsAt heads.now history.new.items before (W.written sink.new) stop) }
+    ensures ends { IfErr result (λ stop. EndsAt heads.now history.new.items store.new before (W.written sink.new) stop) }
     ensures begun { OnErr result (GoesFurther Begins caller (Run name.now ∷ []) history.old.items history.new.items) }
     ensures failed { IsErrOf result Stop.WriteFault → Rose (W.faults sink.old) (W.faults sink.new) }
     ensures later { W.faults sink.old ≤ W.faults sink.new }
@@ -148,7 +157,7 @@ fn follow<W: Sink>(
     ensures call { IfOk result (λ next. next ≡ length (mine caller history.new.items) + 1) }
     ensures few { IfOk result (λ next. next ≤ call + 101) }
     ensures followed { OnOk result (GoesFurther Follows caller (order ∷ []) history.old.items history.new.items) }
-    ensures ends { IfErr result (λ stop. EndsAt heads.now history.new.items before (W.written sink.new) stop) }
+    ensures ends { IfErr result (λ stop. EndsAt heads.now history.new.items store.new before (W.written sink.new) stop) }
     ensures begun { OnErr result (GoesFurther Begins caller (order ∷ []) history.old.items history.new.items) }
     ensures failed { IsErrOf result Stop.WriteFault → Rose (W.faults sink.old) (W.faults sink.new) }
     ensures later { W.faults sink.old ≤ W.faults sink.new }
@@ -181,7 +190,7 @@ pub fn run_client<W: Sink>(
     requires few { length orders ≤ 10000 }
     ensures reached { OnOk result (IsReached heads.now history.new.items store.new before (W.written sink.new)) }
     ensures followed { OnOk result (GoesFurther Follows caller orders history.old.items history.new.items) }
-    ensures ends { IfErr result (λ stop. EndsAt heads.now history.new.items before (W.written sink.new) stop) }
+    ensures ends { IfErr result (λ stop. EndsAt heads.now history.new.items store.new before (W.written sink.new) stop) }
     ensures begun { OnErr result (GoesFurther Begins caller orders history.old.items history.new.items) }
     ensures failed { IsErrOf result Stop.WriteFault → Rose (W.faults sink.old) (W.faults sink.new) }
     ensures later { W.faults sink.old ≤ W.faults sink.new }

@@ -3,7 +3,8 @@ ghost use Rattle.std.specs.Prelude.{◌≡◌, ◌+◌, ◌<◌, ◌≤◌, leng
 ghost use Rattle.od_model.specs.declared.mention.Mention.{Mention as Found};
 ghost use Rattle.od_model.specs.Matching.Words.{begins_with};
 ghost use Rattle.od_model.specs.Matching.Rules.{mentions, rule_mentions};
-ghost use Rattle.od_serve.specs.Queries.{words_rule, query_mention};
+ghost use Rattle.od_model.specs.Grammars.Query.{words_rule};
+ghost use Rattle.od_serve.specs.Queries.{query_mention};
 
 use od_model::list::List;
 use od_model::mention::Mention;

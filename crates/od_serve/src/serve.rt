@@ -2,14 +2,14 @@
 ghost use Rattle.std.specs.Prelude.{◌≡◌, ◌↔◌, ◌⊎◌, Bool, true, false, ℕ, ◌<◌, ◌≤◌, List as Seq, [], length, map, string_bytes, Option, IsTrue};
 ghost use Rattle.std.specs.Io.KnownBytes.{Appends, IsAtEnd};
 ghost use Rattle.od_io.specs.Streams.Count.{Rose};
+ghost use Rattle.od_io.specs.Streams.Writing.{AppendsUpToFault};
 ghost use Rattle.od_model.specs.Run.Clients.{has_refusal};
+ghost use Rattle.od_model.specs.Run.Ends.{Answered, CanEndSo, EndsWith};
 ghost use Rattle.od_model.specs.Run.Outcome.{Outcome, RunOutcome, IsNoScript, RunsScript};
 ghost use Rattle.od_model.specs.Run.Words.{is_serve, exit_status, diagnostic};
 ghost use Rattle.od_model.specs.Script.Runnable.{IsRunnable};
-ghost use Rattle.od_serve.specs.Running.Ends.{Answered, CanEndSo, EndsWith, Warns};
 
 use crate::clients::run_clients;
-use crate::run::Stop;
 use crate::script::{ScriptFault, read_script};
 use crate::store::Store;
 use od_io::{ReadAll, Sink, Source, read_all, write_whole};
@@ -69,15 +69,15 @@ fn run_script<W: Sink>(
     let Script { heads, clients } = script;
     let mut store = Store::new(alloc);
     match run_clients(alloc, heads.get(), &mut store, history, sink, clients) {
-        Ok(()) => {
+        Ok(true) => {
             if has_refusal(history) {
                 Status::Refused
             } else {
                 Status::Done
             }
         }
-        Err(Stop::WriteFault) => Status::WriteFault,
-        Err(Stop::NoMemory) => Status::NoMemory,
+        Ok(false) => Status::NoMemory,
+        Err(_) => Status::WriteFault,
     }
 }
 
@@ -143,7 +143,7 @@ fn exit_status(status: Status) -> u8
 /// Writes the line of a status from 2 on; nothing is written where every command was answered.
 fn warn<E: Sink>(diag: &mut E, status: Status)
     ensures quiet { Answered status → diag.new ≡ diag.old }
-    ensures warns { Warns (E.faults diag.old) (E.faults diag.new) (E.written diag.old) (E.written diag.new) (diagnostic status) }
+    ensures warns { AppendsUpToFault (E.faults diag.old) (E.faults diag.new) (E.written diag.old) (E.written diag.new) (diagnostic status) }
     ensures later { E.faults diag.old ≤ E.faults diag.new }
 {
     match status {
@@ -180,7 +180,7 @@ pub fn odinson<S: Source + Drop, W: Sink + Drop, E: Sink + Drop>(
     ensures sink_later { W.faults sink ≤ W.faults result.sink }
 
     // The line of the status, and nothing where every command was answered.
-    ensures warns { EndsWith (λ status. Warns (E.faults diag) (E.faults result.diag) (E.written diag) (E.written result.diag) (diagnostic status)) result.status }
+    ensures warns { EndsWith (λ status. AppendsUpToFault (E.faults diag) (E.faults result.diag) (E.written diag) (E.written result.diag) (diagnostic status)) result.status }
     ensures quiet { (result.status ≡ 0) ⊎ (result.status ≡ 1) → result.diag ≡ diag }
     ensures diag_later { E.faults diag ≤ E.faults result.diag }
 

@@ -2,6 +2,7 @@
 ghost use Rattle.std.specs.Prelude.{◌≡◌};
 
 use crate::names::Names;
+use change::{Answer, Change};
 use heads::{head_of, is_known};
 use od_conllu::{ReadDocFault, read_doc};
 use od_model::conllu::ConlluFault;
@@ -15,6 +16,7 @@ use session::Session;
 use std::alloc::Global;
 use std::marker::Model;
 
+pub mod change;
 mod heads;
 mod session;
 #[cfg(test)]
@@ -63,9 +65,9 @@ impl Store {
     ghost use Rattle.od_model.specs.Document.Reading.{Reads};
     ghost use Rattle.od_model.specs.Lists.{Each};
     ghost use Rattle.od_model.specs.Object.Parts.{nothing, size_of, has_doc, is_full, session_of, has_session};
-    ghost use Rattle.od_model.specs.Object.Effects.{effect_of};
-    ghost use Rattle.od_model.specs.Object.Replies.{held, reply_doc, reply_open, reply_step, reply_resume, reply_print, reply_release, Replies};
+    ghost use Rattle.od_model.specs.Object.Replies.{held};
     ghost use Rattle.od_model.specs.Script.Runnable.{IsQuery};
+    ghost use Rattle.od_serve.specs.Stores.Changes.{changed, ChangesAt, Fits, IsAnswer, IsNextRound, SessionAt};
 
     /// No document and no session.
     pub fn new(alloc: Global) -> Store
@@ -88,18 +90,16 @@ impl Store {
         &self.docs
     }
 
-    /// Answers a command of a caller. A refused command changes nothing, and neither does one for which memory is refused.
+    /// The answer to a command of a caller, and the change that it makes. Nothing is changed yet.
     pub fn answer(
-        &mut self,
+        &self,
         alloc: Global,
         heads: &[Head],
         caller: u32,
         command: &Command,
-    ) -> Result<Reply, NoMemory>
+    ) -> Result<Answer, NoMemory>
         requires accepted { Each IsQuery heads.now }
-        ensures replies { IfOk result (λ reply. Replies heads.now self.old caller command.now reply) }
-        ensures effect { IfOk result (λ reply. self.new ≡ effect_of heads.now self.old caller command.now reply) }
-        ensures err { OnErr result (self.new ≡ self.old) }
+        ensures { IfOk result (IsAnswer heads.now self.now caller command.now) }
     {
         match command {
             Command::AddDoc { name, body } => self.answer_doc(alloc, name, body),
@@ -113,6 +113,24 @@ impl Store {
             Command::Print { name } => Ok(self.answer_print(caller, name)),
             Command::Release { name } => Ok(self.answer_release(caller, name)),
             Command::Settle => self.answer_settle(alloc),
+        }
+    }
+
+    /// Makes the change; where memory is refused, nothing changes.
+    pub fn change(&mut self, alloc: Global, change: Change) -> Result<(), NoMemory>
+        requires { Fits self.old change }
+        ensures ok { OnOk result (self.new ≡ changed self.old change) }
+        ensures err { OnErr result (self.new ≡ self.old) }
+    {
+        match change {
+            Change::Nothing => Ok(()),
+            Change::Document(doc) => self.add_doc(alloc, doc),
+            Change::Opening(session) => self.add_session(alloc, session),
+            Change::Round { place, added } => self.add_round(alloc, place, added),
+            Change::Holder { place, holder } => {
+                self.hold(place, holder);
+                Ok(())
+            }
         }
     }
 
@@ -150,7 +168,7 @@ impl Store {
     /// The place of the session of a name.
     fn place(&self, name: &Text) -> Option<usize>
         ensures { MatchOption result (session_of name.now self.now.sessions ≡ None)
-            (λ i. (s : SessionState) × (slice_get self.now.sessions i ≡ Some s) × (session_of name.now self.now.sessions ≡ Some s)) }
+            (λ i. (s : SessionState) × (slice_get self.now.sessions i ≡ Some s) × (session_of name.now self.now.sessions ≡ Some s) × ChangesAt name.now self.now.sessions i) }
     {
         self.session_names.place(name)
     }
@@ -158,7 +176,7 @@ impl Store {
     /// The place of the session of a name, where the caller holds it, or why not.
     fn held(&self, caller: u32, name: &Text) -> Result<usize, Refusal>
         ensures { MatchResult result
-            (λ i. (s : SessionState) × (slice_get self.now.sessions i ≡ Some s) × (session_of name.now self.now.sessions ≡ Some s) × (held self.now caller name.now ≡ Ok s))
+            (λ i. (s : SessionState) × (slice_get self.now.sessions i ≡ Some s) × (session_of name.now self.now.sessions ≡ Some s) × ChangesAt name.now self.now.sessions i × (held self.now caller name.now ≡ Ok s))
             (λ refusal. held self.now caller name.now ≡ Err refusal) }
     {
         let Some(i) = self.place(name) else {
@@ -176,69 +194,101 @@ impl Store {
         Some(self.sessions[i].state().rounds.get())
     }
 
-    /// One round more of the session, where the caller holds it.
-    fn answer_step(&mut self, alloc: Global, caller: u32, name: &Text) -> Result<Reply, NoMemory>
-        ensures replies { IfOk result (λ reply. reply ≡ reply_step self.old (held self.old caller name.now)) }
-        ensures effect { IfOk result (λ reply. (heads : Seq Head) → self.new ≡ effect_of heads self.old caller (Command.Step name.now) reply) }
-        ensures err { OnErr result (self.new ≡ self.old) }
+    /// One round more of the session, where the caller holds it and its rounds go on.
+    fn answer_step(&self, alloc: Global, caller: u32, name: &Text) -> Result<Answer, NoMemory>
+        ensures { IfOk result (λ answer. (heads : Seq Head) → IsAnswer heads self.now caller (Command.Step name.now) answer) }
     {
-        let i = match self.held(caller, name) {
-            Ok(i) => i,
-            Err(refusal) => return Ok(Reply::Refused(refusal)),
+        let place = match self.held(caller, name) {
+            Ok(place) => place,
+            Err(refusal) => return Ok(Answer::refused(refusal)),
         };
-        let session = &mut self.sessions[i];
-        let reply = session.step(alloc, &self.docs)?;
-        Ok(reply)
+        let session = &self.sessions[place];
+        match session.next(alloc, &self.docs)? {
+            Err(refusal) => Ok(Answer::refused(refusal)),
+            Ok(added) => Ok(Answer {
+                reply: session.stepped(added.get()),
+                change: Change::Round { place, added },
+            }),
+        }
     }
 
     /// The caller holds the session afterwards, where nobody held it and its grammar is one of the script's.
-    fn answer_resume(&mut self, heads: &[Head], caller: u32, name: &Text) -> Reply
-        ensures replies { result ≡ reply_resume heads.now (session_of name.now self.old.sessions) }
-        ensures effect { self.new ≡ effect_of heads.now self.old caller (Command.Resume name.now) result }
+    fn answer_resume(&self, heads: &[Head], caller: u32, name: &Text) -> Answer
+        ensures { IsAnswer heads.now self.now caller (Command.Resume name.now) result }
     {
-        let Some(i) = self.place(name) else {
-            return Reply::Refused(Refusal::NoSession);
+        let Some(place) = self.place(name) else {
+            return Answer::refused(Refusal::NoSession);
         };
-        let session = &mut self.sessions[i];
-        let holder = session.state().holder;
-        if let Some(owner) = holder {
-            return Reply::Refused(Refusal::Busy { owner });
+        let session = &self.sessions[place];
+        if let Some(owner) = session.state().holder {
+            return Answer::refused(Refusal::Busy { owner });
         }
         if !is_known(heads, session.state()) {
-            return Reply::Refused(Refusal::NoGrammar);
+            return Answer::refused(Refusal::NoGrammar);
         }
-        session.take(caller);
-        session.resumed()
+        Answer {
+            reply: session.resumed(),
+            change: Change::Holder {
+                place,
+                holder: Some(caller),
+            },
+        }
     }
 
     /// What the session has, where the caller holds it.
-    fn answer_print(&self, caller: u32, name: &Text) -> Reply
-        ensures { result ≡ reply_print (held self.now caller name.now) }
+    fn answer_print(&self, caller: u32, name: &Text) -> Answer
+        ensures { (heads : Seq Head) → IsAnswer heads self.now caller (Command.Print name.now) result }
     {
         match self.held(caller, name) {
-            Ok(i) => self.sessions[i].printed(),
-            Err(refusal) => Reply::Refused(refusal),
+            Ok(place) => Answer::without_change(self.sessions[place].printed()),
+            Err(refusal) => Answer::refused(refusal),
         }
     }
 
     /// Nobody holds the session afterwards, where the caller held it.
-    fn answer_release(&mut self, caller: u32, name: &Text) -> Reply
-        ensures replies { result ≡ reply_release (held self.old caller name.now) }
-        ensures effect { (heads : Seq Head) → self.new ≡ effect_of heads self.old caller (Command.Release name.now) result }
+    fn answer_release(&self, caller: u32, name: &Text) -> Answer
+        ensures { (heads : Seq Head) → IsAnswer heads self.now caller (Command.Release name.now) result }
     {
-        let i = match self.held(caller, name) {
-            Ok(i) => i,
-            Err(refusal) => return Reply::Refused(refusal),
-        };
-        let session = &mut self.sessions[i];
-        session.let_go();
-        Reply::Released
+        match self.held(caller, name) {
+            Ok(place) => Answer {
+                reply: Reply::Released,
+                change: Change::Holder {
+                    place,
+                    holder: None,
+                },
+            },
+            Err(refusal) => Answer::refused(refusal),
+        }
+    }
+
+    /// One round more of the session at the place.
+    fn add_round(
+        &mut self,
+        alloc: Global,
+        place: usize,
+        added: List<Mention>,
+    ) -> Result<(), NoMemory>
+        requires { SessionAt self.old.sessions place (IsNextRound self.old.docs added) }
+        ensures ok { OnOk result (self.new ≡ changed self.old (Change.Round place added)) }
+        ensures err { OnErr result (self.new ≡ self.old) }
+    {
+        let session = &mut self.sessions[place];
+        session.add_round(alloc, added)?;
+        Ok(())
+    }
+
+    /// The session at the place has this holder, or none, from now on.
+    fn hold(&mut self, place: usize, holder: Option<u32>)
+        requires { SessionAt self.old.sessions place (λ s. Unit {0}) }
+        ensures { self.new ≡ changed self.old (Change.Holder place holder) }
+    {
+        let session = &mut self.sessions[place];
+        session.hold(holder);
     }
 
     /// One session more, whose name is new.
-    fn add_session(&mut self, alloc: Global, name: &Text, session: Session) -> Result<(), NoMemory>
-        requires named { session.name ≡ name.now }
-        requires free { has_session self.old name.now ≡ false }
+    fn add_session(&mut self, alloc: Global, session: Session) -> Result<(), NoMemory>
+        requires free { has_session self.old session.name ≡ false }
         requires room { length self.old.sessions < 128 }
         ensures ok { OnOk result (self.new ≡ record self.old { sessions = self.old.sessions ++ session ∷ [] }) }
         ensures err { OnErr result (self.new ≡ self.old) }
@@ -246,7 +296,7 @@ impl Store {
         let Ok(()) = self.sessions.reserve(1) else {
             return Err(NoMemory);
         };
-        self.session_names.push(alloc, name)?;
+        self.session_names.push(alloc, &session.state().name)?;
         self.sessions.push_reserved(session);
         Ok(())
     }
@@ -270,95 +320,88 @@ impl Store {
 
     /// A session of one of the script's grammars, which the caller holds afterwards.
     fn answer_open(
-        &mut self,
+        &self,
         alloc: Global,
         heads: &[Head],
         caller: u32,
         name: &Text,
         grammar: &Text,
         limit: u32,
-    ) -> Result<Reply, NoMemory>
+    ) -> Result<Answer, NoMemory>
         requires { Each IsQuery heads.now }
-        ensures replies { IfOk result (λ reply. reply ≡ reply_open heads.now self.old name.now grammar.now limit) }
-        ensures effect { IfOk result (λ reply. self.new ≡ effect_of heads.now self.old caller (Command.OpenSession name.now grammar.now limit) reply) }
-        ensures err { OnErr result (self.new ≡ self.old) }
+        ensures { IfOk result (IsAnswer heads.now self.now caller (Command.OpenSession name.now grammar.now limit)) }
     {
         let Some(head) = head_of(heads, grammar) else {
-            return Ok(Reply::Refused(Refusal::NoGrammar));
+            return Ok(Answer::refused(Refusal::NoGrammar));
         };
         if limit < 1 || MOST_ROUNDS < limit {
-            return Ok(Reply::Refused(Refusal::BadLimit { limit }));
+            return Ok(Answer::refused(Refusal::BadLimit { limit }));
         }
         if self.has_session(name) {
-            return Ok(Reply::Refused(Refusal::Taken));
+            return Ok(Answer::refused(Refusal::Taken));
         }
         let count = self.sessions.len();
         if MOST_SESSIONS <= count {
-            return Ok(Reply::Refused(Refusal::NoRoom {
+            return Ok(Answer::refused(Refusal::NoRoom {
                 count: count as u32,
             }));
         }
         let documents = self.docs.len() as u32;
         let session = Session::open(alloc, name, head, documents, limit, caller)?;
-        self.add_session(alloc, name, session)?;
-        Ok(Reply::Opened { documents, limit })
+        Ok(Answer {
+            reply: Reply::Opened { documents, limit },
+            change: Change::Opening(session),
+        })
     }
 
     /// The document that was read, or its first fault.
-    fn answer_read(
-        &mut self,
-        alloc: Global,
-        name: &Text,
-        body: &Bytes,
-        read: Result<Doc, ConlluFault>,
-    ) -> Result<Reply, NoMemory>
+    fn answer_read(&self, name: &Text, body: &Bytes, read: Result<Doc, ConlluFault>) -> Answer
         requires { MatchResult read (λ doc. Reads name.now body.now doc) (λ fault. doc_fault body.now ≡ Some fault) }
-        ensures replies { IfOk result (λ reply. reply ≡ reply_doc self.old name.now body.now) }
-        ensures effect { IfOk result (λ reply. (heads : Seq Head) (caller : ℕ) → self.new ≡ effect_of heads self.old caller (Command.AddDoc name.now body.now) reply) }
-        ensures err { OnErr result (self.new ≡ self.old) }
+        ensures { (heads : Seq Head) (caller : ℕ) → IsAnswer heads self.now caller (Command.AddDoc name.now body.now) result }
     {
         let doc = match read {
             Ok(doc) => doc,
             Err(fault) => {
-                return Ok(Reply::Refused(Refusal::BadDoc {
+                return Answer::refused(Refusal::BadDoc {
                     line: fault.line,
                     kind: fault.kind,
-                }));
+                });
             }
         };
         if self.has_doc(name) {
-            return Ok(Reply::Refused(Refusal::Duplicate));
+            return Answer::refused(Refusal::Duplicate);
         }
         if self.is_full(doc.size) {
-            return Ok(Reply::Refused(self.full()));
+            return Answer::refused(self.full());
         }
-        let documents = self.docs.len() as u32 + 1;
-        self.add_doc(alloc, doc)?;
-        Ok(Reply::Added { documents })
+        Answer {
+            reply: Reply::Added {
+                documents: self.docs.len() as u32 + 1,
+            },
+            change: Change::Document(doc),
+        }
     }
 
     /// The document that the bytes are, which is committed afterwards.
-    fn answer_doc(&mut self, alloc: Global, name: &Text, body: &Bytes) -> Result<Reply, NoMemory>
-        ensures replies { IfOk result (λ reply. reply ≡ reply_doc self.old name.now body.now) }
-        ensures effect { IfOk result (λ reply. (heads : Seq Head) (caller : ℕ) → self.new ≡ effect_of heads self.old caller (Command.AddDoc name.now body.now) reply) }
-        ensures err { OnErr result (self.new ≡ self.old) }
+    fn answer_doc(&self, alloc: Global, name: &Text, body: &Bytes) -> Result<Answer, NoMemory>
+        ensures { IfOk result (λ answer. (heads : Seq Head) (caller : ℕ) → IsAnswer heads self.now caller (Command.AddDoc name.now body.now) answer) }
     {
         let read = match read_doc(alloc, name.get(), body.get()) {
             Ok(doc) => Ok(doc),
             Err(ReadDocFault::Bad(fault)) => Err(fault),
             Err(ReadDocFault::NoMemory) => return Err(NoMemory),
         };
-        self.answer_read(alloc, name, body, read)
+        Ok(self.answer_read(name, body, read))
     }
 
     /// All sentences in one segment, or no segment where there is none.
-    fn answer_settle(&self, alloc: Global) -> Result<Reply, NoMemory>
-        ensures { IfOk result (λ reply. (heads : Seq Head) (caller : ℕ) → Replies heads self.now caller Command.Settle reply) }
+    fn answer_settle(&self, alloc: Global) -> Result<Answer, NoMemory>
+        ensures { IfOk result (λ answer. (heads : Seq Head) (caller : ℕ) → IsAnswer heads self.now caller Command.Settle answer) }
     {
         let mut sizes = List::new(alloc);
         if self.sentences > 0 {
             sizes.push(self.sentences as u32)?;
         }
-        Ok(Reply::Settled { sizes })
+        Ok(Answer::without_change(Reply::Settled { sizes }))
     }
 }

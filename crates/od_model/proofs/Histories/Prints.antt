@@ -13,8 +13,10 @@ use Rattle.od_model.specs.Object.Parts.{is_named, session_of, phase_with}
 use Rattle.od_model.specs.Object.Replies.{held, held_in, held_as, reply_print}
 use Rattle.od_model.specs.History.Legal.{state_after, Legal}
 use Rattle.od_model.specs.History.Lines.{lines_of_session}
-use Rattle.od_model.specs.History.Prints.{ShowsRounds, IsAccepted, PrintsRounds}
-use Rattle.od_model.proofs.Lists.{Each-find}
+use Rattle.od_model.specs.History.Prints.{IsOpened, ShowsRounds, IsAccepted, PrintsRounds}
+use Rattle.od_model.proofs.Lists.{Each-find, find-passes}
+use Rattle.od_model.proofs.Objects.Names.{same-name}
+use Rattle.od_model.proofs.Histories.Openings.{opening_of, IsOpenedSession, AreOpenedAfter, opened-after}
 use Rattle.od_model.proofs.Histories.Steps.{Legal-front, Legal-at}
 use Rattle.od_model.proofs.Histories.Sound.{IsSound, IsSoundSession, sound-after, grammar-is}
 
@@ -40,13 +42,17 @@ printed-of : (o : OneThread) (caller : ℕ) (name : List ℕ) (number mentions :
 printed-of o caller name number mentions state None at e = absurd (cc)
 printed-of o caller name number mentions state (Some s) at e = (s, at, printed-held caller s number mentions state s.holder e)
 
-shows : (o : OneThread) (name : List ℕ) (number mentions : ℕ) (state : Phase) (s : SessionState) → Each (IsSoundSession o.docs) o.sessions → session_of name o.sessions ≡ Some s → IsPrinted s number mentions state
-    → ShowsRounds o name number state (lines_of_session o.docs name (session_of name o.sessions))
-shows o name number mentions state s sound at p =
-    let own : IsSoundSession o.docs s = Each-find (IsSoundSession o.docs) (is_named name) s o.sessions sound at in
+shows : (start : OneThread) (heads : List Head) (seen : List Entry) (name : List ℕ) (number mentions : ℕ) (state : Phase) (s : SessionState)
+    → IsSound (state_after start heads seen) → AreOpenedAfter start heads seen → session_of name (state_after start heads seen).sessions ≡ Some s → IsPrinted s number mentions state
+    → ShowsRounds start heads seen name number state (lines_of_session (state_after start heads seen).docs name (session_of name (state_after start heads seen).sessions))
+shows start heads seen name number mentions state s sound opened at p =
+    let o = state_after start heads seen in
+    let own : IsSoundSession o.docs s = Each-find (IsSoundSession o.docs) (is_named name) s o.sessions sound.sound at in
+    let was : IsOpenedSession start heads seen o.docs s = Each-find (IsOpenedSession start heads seen o.docs) (is_named name) s o.sessions opened at in
+    let called : s.name ≡ name = same-name s.name name (find-passes (is_named name) s o.sessions at) in
     record {
-      session = s;
-      is = at;
+      opening = opening_of s o.docs;
+      opened = subst (λ n. IsOpened start heads seen n (opening_of s o.docs)) called was;
       grammar = own.grammar;
       reads = own.reads;
       lists = s.rounds;
@@ -60,9 +66,9 @@ shows o name number mentions state s sound at p =
 pub prints-rounds : (start : OneThread) (heads : List Head) (history : List Entry) → IsSound start → Each IsAccepted heads → Legal start heads history → PrintsRounds start heads history
 prints-rounds start heads history sound accepted whole front e rest name number mentions state is command-is reply-is =
     let legal : Legal start heads (front ++ e ∷ rest) = subst (Legal start heads) is whole in
+    let before = Legal-front start heads front (e ∷ rest) legal in
     let o = state_after start heads front in
-    let h = sound-after start heads accepted front sound (Legal-front start heads front (e ∷ rest) legal) in
     let next = Legal-at start heads front e rest legal in
     let says : Printed number mentions state ≡ reply_print (held o e.caller name) = rw (command-is, reply-is) at next.replies in
     let found = printed-of o e.caller name number mentions state (session_of name o.sessions) refl says in
-    rw (command-is, reply-is) (shows o name number mentions state found.0 h.sound found.1 found.2)
+    rw (command-is, reply-is) (shows start heads front name number mentions state found.0 (sound-after start heads accepted front sound before) (opened-after start heads accepted front sound before) found.1 found.2)

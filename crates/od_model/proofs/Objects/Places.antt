@@ -1,5 +1,5 @@
 -- The session of a name at its place: a change of the name is a write there.
-use Rattle.std.proofs.Common.{◌≡◌, ℕ, zero, suc, List, [], ◌∷◌, ◌++◌, map, slice_get, slice_set, Some, Bool, true, false, cond, ◌||◌, refl, sym, ap, ap₂, ◌∙◌, subst, bytes_eq}
+use Rattle.std.proofs.Common.{◌≡◌, ℕ, zero, suc, List, [], ◌∷◌, ◌++◌, map, slice_get, slice_set, Some, Bool, true, false, cond, ◌||◌, refl, ap, ap₂, ◌∙◌, bytes_eq}
 use Rattle.std.specs.List.{list_any}
 use Rattle.std.proofs.lemmas.List.Folds.{list_any-append}
 use Rattle.std.proofs.lemmas.Slice.Eq.{bytes_eq-Decides}
@@ -7,8 +7,8 @@ use Rattle.od_model.specs.declared.object.SessionState.{SessionState}
 use Rattle.od_model.specs.Lists.{Each, points_after}
 use Rattle.od_model.specs.Object.Parts.{is_named, Distinct, session_of}
 use Rattle.od_model.specs.Object.Effects.{change}
-use Rattle.od_model.proofs.Lists.{Each-weaker, EachPoint-snoc}
-use Rattle.od_model.proofs.Objects.Names.{behind, or_from_left, or_from_right, session-unique, change-same}
+use Rattle.od_model.proofs.Lists.{EachPoint-snoc}
+use Rattle.od_model.proofs.Objects.Names.{behind, or_from_left, or_from_right}
 
 -- a name is the same as itself
 pub name-itself : (a : List ℕ) → bytes_eq a a ≡ true
@@ -66,12 +66,7 @@ placed name seen (x ∷ xs) (suc i) s h at n = placed-past name x s xs i (is_nam
 pub session-placed : (name : List ℕ) (sessions : List SessionState) (i : ℕ) (s : SessionState) → Distinct sessions → slice_get sessions i ≡ Some s → s.name ≡ name → IsPlaced name sessions i s
 session-placed name sessions i s distinct at n = placed name [] sessions i s distinct at n
 
--- ## Changes of that session
-
--- two changes that agree on the session of the name
-pub change-session : (name : List ℕ) (f g : SessionState → SessionState) (xs : List SessionState) (s : SessionState) → Distinct xs → session_of name xs ≡ Some s → f s ≡ g s → change name f xs ≡ change name g xs
-change-session name f g xs s d found e = change-same name f g xs
-    (Each-weaker (λ t. is_named name t ≡ true → t ≡ s) (λ t. is_named name t ≡ true → f t ≡ g t) (λ t only yes. subst (λ u. f u ≡ g u) (sym (only yes)) e) xs (session-unique name xs s d found))
+-- ## A change that keeps names
 
 changed-name : (f : SessionState → SessionState) (s : SessionState) (b : Bool) → (f s).name ≡ s.name → (cond b (f s) s).name ≡ s.name
 changed-name f s true h = h

@@ -25,14 +25,18 @@ is_plain_word word = nat_le 1 (length word) && (nat_le (length word) 64 && list_
 abbrev pub is_word_query : List ℕ → Bool
 is_word_query text = nat_le (length (words_of text)) 16 && list_all is_plain_word (words_of text)
 
--- the one rule of a query: it runs from round 1 on, and finds the words in a row, by their norms
-abbrev pub query_rule : List ℕ → Rule
-query_rule text = record {
+-- the rule that finds these norms in a row, from round 1 on
+abbrev pub words_rule : List (List ℕ) → Rule
+words_rule norms = record {
   name = codes "query";
   label = codes "Query";
   priority = record { first = 1; last = None };
-  body = body.Basic (record { first = words_surface (map fold_text (words_of text)); rest = [] });
+  body = body.Basic (record { first = words_surface norms; rest = [] });
 }
+
+-- the one rule of a query: its words, folded
+abbrev pub query_rule : List ℕ → Rule
+query_rule text = words_rule (map fold_text (words_of text))
 
 abbrev pub query_grammar : List ℕ → Grammar
 query_grammar text = record { kind = Query; text = text; rules = query_rule text ∷ [] }

@@ -1,8 +1,6 @@
 -- The fields that a constraint may name, and the values that it may ask for.
 use Rattle.std.specs.Prelude.{ℕ, List, Option, Some, None, if◌then◌else◌, nat_eq, codes, Bool}
 use Rattle.std.specs.Cmp.Lexicographic.{pointwise}
-use Rattle.std.specs.Str.{chars, encode_utf8_all}
-use Rattle.caseless.specs.Caseless.{default_case_fold}
 use Rattle.od_model.specs.declared.pattern.Field.{Field}
 use Rattle.od_model.specs.declared.pattern.Field.TheVariants.{Word, Norm, Lemma, Upos, Tag, Entity, Chunk, Incoming, Outgoing}
 use Rattle.od_model.specs.declared.pattern.Value.{Value}
@@ -11,6 +9,7 @@ use Rattle.od_model.specs.declared.pattern.Value.TheVariants as value
 use Rattle.od_model.specs.declared.lexeme.LexKind.{LexKind}
 use Rattle.od_model.specs.declared.lexeme.LexKind.TheVariants.{Quoted, Regex}
 use Rattle.od_model.specs.declared.lexeme.LexKind.TheVariants as lexeme
+use Rattle.od_model.specs.Document.Columns.{fold_text}
 
 -- the name of a field
 abbrev pub field_name : Field → List ℕ
@@ -42,13 +41,9 @@ field_named name =
     if is_text name (field_name Outgoing) then Some Outgoing else
     None
 
--- a text by Unicode's default case folding
-unfoldable pub folded : List ℕ → List ℕ
-folded text = encode_utf8_all (default_case_fold (chars text))
-
 -- the text that a field is compared with: norms are folded
 abbrev pub compared_text : Field → List ℕ → List ℕ
-compared_text Norm text = folded text
+compared_text Norm text = fold_text text
 compared_text f text = text
 
 -- the value that a lexeme stands for behind `field=`

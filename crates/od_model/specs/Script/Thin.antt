@@ -1,11 +1,12 @@
 -- Scripts of one grammar and one client: which bytes are one, and what it asks.
 use Rattle.std.specs.Prelude.{ℕ, ◌+◌, ◌-◌, ◌*◌, List, [], ◌∷◌, ◌++◌, length, take, drop, Option, Some, None, Bool, ◌&&◌, ◌||◌, ◌==◌, if◌then◌else◌, nat_lt, nat_le, slice_index, bytes_eq, codes}
-use Rattle.std.specs.List.{list_all, slice_split, position_or_len, before_first, after_first}
+use Rattle.std.specs.List.{list_all, slice_split}
 use Rattle.od_model.specs.declared.grammar.GrammarKind.TheVariants.{Query}
 use Rattle.od_model.specs.declared.grammar.Head.{Head}
 use Rattle.od_model.specs.declared.history.Command.TheVariants.{AddDoc, OpenSession, Print}
 use Rattle.od_model.specs.declared.script.Order.TheVariants.{One, Run}
 use Rattle.od_model.specs.declared.script.Script.{Script}
+use Rattle.od_model.specs.Document.Columns.{split_once}
 use Rattle.od_model.specs.Grammars.Query.{is_letter, is_word_query, words_of}
 
 -- ## Names and numbers
@@ -44,10 +45,6 @@ abbrev pub block_of : List (List ℕ) → List ℕ
 block_of [] = []
 block_of (line ∷ lines) = line ++ 10 ∷ block_of lines
 
--- the text before the first space and that behind it
-abbrev pub at_space : List ℕ → Option (List ℕ × List ℕ)
-at_space text = if nat_lt (position_or_len (λ b. b == 32) text) (length text) then Some (before_first (λ b. b == 32) text, after_first (λ b. b == 32) text) else None
-
 -- `query NAME WORD WORD ..`
 abbrev pub query_named : Option (List ℕ × List ℕ) → Option Head
 query_named None = None
@@ -55,10 +52,10 @@ query_named (Some (name, text)) = if is_name name && is_word_query text then Som
 
 abbrev pub query_begun : Option (List ℕ × List ℕ) → Option Head
 query_begun None = None
-query_begun (Some (first, rest)) = if bytes_eq first (codes "query") then query_named (at_space rest) else None
+query_begun (Some (first, rest)) = if bytes_eq first (codes "query") then query_named (split_once 32 rest) else None
 
 abbrev pub query_line : List ℕ → Option Head
-query_line line = query_begun (at_space line)
+query_line line = query_begun (split_once 32 line)
 
 -- `doc NAME N`
 abbrev pub with_count : List ℕ → Option ℕ → Option (List ℕ × ℕ)

@@ -1,22 +1,17 @@
 -- What a session keeps through a step, and what a step makes of all sessions.
-use Rattle.std.proofs.Common.{◌≡◌, ℕ, ◌+◌, ◌≤◌, List, [], ◌∷◌, ◌++◌, length, Ok, refl, sym, ap, ap₂, ◌∙◌, cond, Bool, true, false, arith, length-append}
+use Rattle.std.proofs.Common.{◌≡◌, ℕ, ◌+◌, ◌≤◌, List, [], ◌∷◌, ◌++◌, length, Ok, refl, sym, ap, ◌∙◌, arith, length-append}
 use Rattle.std.proofs.lemmas.List.{length_push}
 use Rattle.od_model.specs.declared.doc.Doc.{Doc}
-use Rattle.od_model.specs.declared.grammar.Head.{Head}
 use Rattle.od_model.specs.declared.mention.Mention.{Mention}
 use Rattle.od_model.specs.declared.mention.RoundResult.TheVariants.{Found}
 use Rattle.od_model.specs.declared.history.Phase.{Phase}
 use Rattle.od_model.specs.declared.history.Phase.TheVariants.{Going, Finished, AtLimit}
-use Rattle.od_model.specs.declared.history.Command.TheVariants.{Step}
-use Rattle.od_model.specs.declared.history.Reply.{Reply}
-use Rattle.od_model.specs.declared.history.Reply.TheVariants.{Stepped}
 use Rattle.od_model.specs.declared.object.SessionState.{SessionState}
 use Rattle.od_model.specs.declared.object.OneThread.{OneThread}
 use Rattle.od_model.specs.Rounds.Phases.{greatest_first}
 use Rattle.od_model.specs.Rounds.Round.{joined}
 use Rattle.od_model.specs.Rounds.Weight.{weight, most_weight}
-use Rattle.od_model.specs.Object.Parts.{grammar_at, phase_with, round_at, is_named}
-use Rattle.od_model.specs.Object.Effects.{effect_of, change}
+use Rattle.od_model.specs.Object.Parts.{grammar_at, phase_with, round_at}
 use Rattle.od_model.specs.Object.Replies.{reply_phase, reply_step}
 use Rattle.od_model.proofs.Histories.Sound.{going-below}
 use Rattle.od_model.proofs.Rounds.After.{joined-snoc, weight-after, distinct-after, light-after}
@@ -24,7 +19,7 @@ use Rattle.od_model.proofs.Rounds.Weights.{length-le-weight}
 use Rattle.od_serve.specs.declared.known.Known.{Known}
 use Rattle.od_serve.specs.Known.{IsComplete}
 use Rattle.od_serve.specs.Stores.Sessions.{IsRunning}
-use Rattle.od_serve.specs.Stores.Steps.{step_reply, after_step}
+use Rattle.od_serve.specs.Stores.Steps.{step_reply}
 
 -- ## The session
 
@@ -73,22 +68,3 @@ phase-docs o s Going = refl
 -- so the answer to a step does
 pub step-docs : (o : OneThread) (s : SessionState) → reply_step o (Ok s) ≡ step_reply o.docs s
 step-docs o s = phase-docs o s (phase_with s s.rounds)
-
--- a step keeps the name
-pub after_step-name : (docs : List Doc) (s : SessionState) (reply : Reply) → (after_step docs s reply).name ≡ s.name
-after_step-name docs s (Stepped round added phase) = refl
-after_step-name docs s reply = refl
-
-same : (s : SessionState) (b : Bool) → cond b s s ≡ s
-same s true = refl
-same s false = refl
-
--- a change that is none
-change-same : (name : List ℕ) (sessions : List SessionState) → change name (λ s. s) sessions ≡ sessions
-change-same name [] = refl
-change-same name (s ∷ sessions) = ap₂ (λ (t : SessionState) (l : List SessionState). t ∷ l) (same s (is_named name s)) (change-same name sessions)
-
--- the effect of a step, whatever is answered, is a change of the session of the name
-pub effect-step : (heads : List Head) (o : OneThread) (caller : ℕ) (name : List ℕ) (reply : Reply) → effect_of heads o caller (Step name) reply ≡ record { docs = o.docs; sessions = change name (λ s. after_step o.docs s reply) o.sessions }
-effect-step heads o caller name (Stepped round added phase) = refl
-effect-step heads o caller name reply = ap (λ sessions. record { docs = o.docs; sessions = sessions }) (sym (change-same name o.sessions))

@@ -23,10 +23,10 @@ pub record IsReached (heads : List Head) (history : List Entry) (object : OneThr
   pub told : IsTold heads history before now
   pub object_is : object ≡ state_after nothing heads history
 
--- why it ended, and what the history and the lines are then
-abbrev pub EndsAt : List Head → List Entry → Option (List ℕ) → Option (List ℕ) → Stop → Type 0
-EndsAt heads history before now WriteFault = Legal nothing heads history × IsCutShort heads history before now
-EndsAt heads history before now NoMemory = IsTold heads history before now
+-- why it ended, and what the history, the object and the lines are then: after want of memory they still agree
+abbrev pub EndsAt : List Head → List Entry → OneThread → Option (List ℕ) → Option (List ℕ) → Stop → Type 0
+EndsAt heads history object before now WriteFault = Legal nothing heads history × IsCutShort heads history before now
+EndsAt heads history object before now NoMemory = IsReached heads history object before now
 
 -- the history with one entry more, of this caller and command
 pub record OneMore (caller : ℕ) (command : Command) (old new : List Entry) (e : Entry) : Type 0 where

@@ -2,16 +2,9 @@
 use Rattle.std.specs.Prelude.{List, [], Ok}
 use Rattle.od_model.specs.declared.doc.Doc.{Doc}
 use Rattle.od_model.specs.declared.history.Reply.{Reply}
-use Rattle.od_model.specs.declared.history.Reply.TheVariants.{Stepped}
 use Rattle.od_model.specs.declared.object.SessionState.{SessionState}
-use Rattle.od_model.specs.Object.Effects.{stepped}
 use Rattle.od_model.specs.Object.Replies.{reply_step}
 
 -- the answer to a step by the holder, over these documents
 abbrev pub step_reply : List Doc → SessionState → Reply
 step_reply docs s = reply_step (record { docs = docs; sessions = [] }) (Ok s)
-
--- the session after that answer: a refusal leaves it as it was
-abbrev pub after_step : List Doc → SessionState → Reply → SessionState
-after_step docs s (Stepped round added phase) = stepped docs s
-after_step docs s reply = s

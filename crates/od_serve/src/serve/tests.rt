@@ -1,8 +1,16 @@
-//! The top call over sources and sinks in memory.
-use super::{Ended, odinson};
+//! The top call over sources and sinks in memory, and scripts of several clients, which no input asks for yet.
+ghost use Rattle.std.specs.Prelude.{◌≤◌, length, IfOk};
+ghost use Rattle.od_model.specs.Script.Runnable.{IsRunnable};
+
+use super::{Ended, odinson, run_script};
+use crate::examples::{Ask, DOGS, command, head};
 use od_io::{MemSink, MemSource};
-use od_model::text::{Bytes, NoMemory};
+use od_model::list::List;
+use od_model::script::{Order, Script};
+use od_model::status::Status;
+use od_model::text::{Bytes, NoMemory, Text};
 use std::alloc::{AllocError, Global};
+use std::test::Fail;
 
 type Run = Ended<MemSource, MemSink, MemSink>;
 
@@ -138,4 +146,66 @@ fn a_diagnostic_that_cannot_be_written_changes_no_status(rt: HostRuntime) {
     let ended = run(rt.alloc(), &given).expect(&rt, "memory");
     assert_eq!(rt; ended.status, 2);
     assert!(rt; ended.diag.written() == &USAGE[..7]);
+}
+
+/// What a script asks of a client: one command, or steps of the session `s` up to the first answer that ends them.
+#[derive(Clone, Copy, Debug)]
+enum Asked {
+    One(Ask),
+    Run,
+}
+
+fn orders(alloc: Global, asks: &[Asked]) -> Result<List<Order>, NoMemory>
+    requires { length asks.now ≤ 10000 }
+    ensures { IfOk result (λ orders. length orders ≤ 10000) }
+{
+    let mut orders = List::new(alloc);
+    for asked in asks {
+        orders.push(match *asked {
+            Asked::One(ask) => Order::One(command(alloc, ask)?),
+            Asked::Run => Order::Run(Text::from_str(alloc, "s")?),
+        })?;
+    }
+    Ok(orders)
+}
+
+/// A client that leaves its session after the first round, and one that first runs the session without holding it.
+fn two_clients(alloc: Global) -> Result<Script, NoMemory>
+    ensures { IfOk result IsRunnable }
+{
+    let first = [
+        Asked::One(Ask::Add(DOGS)),
+        Asked::One(Ask::Open("q", 5)),
+        Asked::One(Ask::Step),
+        Asked::One(Ask::Release),
+    ];
+    let second = [
+        Asked::Run,
+        Asked::One(Ask::Resume),
+        Asked::Run,
+        Asked::One(Ask::Print),
+        Asked::One(Ask::Settle),
+    ];
+    let mut heads = List::new(alloc);
+    heads.push(head(alloc)?)?;
+    let mut clients = List::new(alloc);
+    clients.push(orders(alloc, &first)?)?;
+    clients.push(orders(alloc, &second)?)?;
+    Ok(Script { heads, clients })
+}
+
+const TWO_CLIENTS_LINES: &[u8] =
+    b"{\"call\":1,\"caller\":1,\"command\":\"doc\",\"documents\":1,\"name\":\"d\",\"reply\":\"ok\"}\n{\"call\":2,\"caller\":1,\"command\":\"open\",\"documents\":1,\"limit\":5,\"name\":\"s\",\"reply\":\"ok\"}\n{\"added\":1,\"call\":3,\"caller\":1,\"command\":\"step\",\"name\":\"s\",\"reply\":\"ok\",\"round\":1,\"state\":\"going\"}\n{\"call\":4,\"caller\":1,\"command\":\"release\",\"name\":\"s\",\"reply\":\"ok\"}\n{\"call\":1,\"caller\":2,\"command\":\"step\",\"name\":\"s\",\"reply\":\"NotHeld\"}\n{\"call\":2,\"caller\":2,\"command\":\"resume\",\"documents\":1,\"limit\":5,\"mentions\":1,\"name\":\"s\",\"reply\":\"ok\",\"round\":1,\"state\":\"going\"}\n{\"added\":0,\"call\":3,\"caller\":2,\"command\":\"step\",\"name\":\"s\",\"reply\":\"ok\",\"round\":2,\"state\":\"finished\"}\n{\"arguments\":[],\"document\":\"d\",\"end\":2,\"label\":\"Query\",\"rule\":\"query\",\"sentence\":0,\"session\":\"s\",\"start\":1,\"text\":\"bark\"}\n{\"call\":4,\"caller\":2,\"command\":\"print\",\"mentions\":1,\"name\":\"s\",\"reply\":\"ok\",\"round\":2,\"state\":\"finished\"}\n{\"call\":5,\"caller\":2,\"command\":\"settle\",\"reply\":\"ok\",\"sizes\":[1]}\n";
+
+/// Of two clients the second goes on after a refusal, and takes over the session that the first one left.
+#[test]
+fn a_second_client_goes_on_with_a_released_session(rt: HostRuntime) -> Result<(), Fail> {
+    let alloc = rt.alloc();
+    let mut sink = MemSink::new(alloc, 10000)?;
+    let mut history = Vec::new(alloc);
+    let status = run_script(alloc, two_clients(alloc)?, &mut sink, &mut history);
+    assert_eq!(rt; status, Status::Refused);
+    assert!(rt; sink.written() == TWO_CLIENTS_LINES);
+    assert_eq!(rt; history.len(), 9);
+    Ok(())
 }

@@ -4,9 +4,8 @@ ghost use Rattle.od_model.specs.declared.doc.Doc.{Doc};
 ghost use Rattle.od_model.specs.Grammars.Query.{grammar_of, query_grammar};
 ghost use Rattle.od_model.specs.Rounds.Round.{joined};
 ghost use Rattle.od_model.specs.Object.Parts.{phase_with, round_at};
-ghost use Rattle.od_model.specs.Object.Effects.{taken_by, let_go};
 ghost use Rattle.od_model.specs.Object.Replies.{held_as, reply_print, reply_round};
-ghost use Rattle.od_serve.specs.Stores.Steps.{step_reply, after_step};
+ghost use Rattle.od_serve.specs.Stores.Steps.{step_reply};
 
 use crate::known::Known;
 use crate::query::query_words;
@@ -135,16 +134,20 @@ impl Session {
         }
     }
 
-    /// One round more, where the rounds go on. Where it is refused, or memory is, the session stays as it was.
-    pub fn step(&mut self, alloc: Global, docs: &[Doc]) -> Result<Reply, NoMemory>
-        ensures replies { IfOk result (λ reply. reply ≡ step_reply docs.now self.old) }
-        ensures effect { IfOk result (λ reply. self.new ≡ after_step docs.now self.old reply) }
-        ensures err { OnErr result (self.new ≡ self.old) }
+    /// The mentions that the next round adds, where the rounds go on and it is not refused.
+    pub fn next(
+        &self,
+        alloc: Global,
+        docs: &[Doc],
+    ) -> Result<Result<List<Mention>, Refusal>, NoMemory>
+        ensures { IfOk result (λ next. MatchResult next
+            (λ added. (phase_with self.now self.now.rounds ≡ Phase.Going) × (round_at docs.now self.now ≡ RoundResult.Found added))
+            (λ refusal. step_reply docs.now self.now ≡ Reply.Refused refusal)) }
     {
         let round = self.round();
         match self.phase() {
-            Phase::Finished => return Ok(Reply::Refused(Refusal::Finished { round })),
-            Phase::AtLimit => return Ok(Reply::Refused(Refusal::AtLimit { round })),
+            Phase::Finished => return Ok(Err(Refusal::Finished { round })),
+            Phase::AtLimit => return Ok(Err(Refusal::AtLimit { round })),
             Phase::Going => {}
         }
         match self.next_round(alloc, docs)? {
@@ -153,14 +156,14 @@ impl Session {
                 document,
                 sentence,
                 count,
-            } => Ok(Reply::Refused(Refusal::Crowded {
+            } => Ok(Err(Refusal::Crowded {
                 rule,
                 document,
                 sentence,
                 count,
             })),
-            RoundResult::TooMany { weight } => Ok(Reply::Refused(Refusal::TooMany { weight })),
-            RoundResult::Found(new) => self.add_round(alloc, new),
+            RoundResult::TooMany { weight } => Ok(Err(Refusal::TooMany { weight })),
+            RoundResult::Found(added) => Ok(Ok(added)),
         }
     }
 
@@ -178,42 +181,40 @@ impl Session {
         )
     }
 
-    /// Adds what the next round found, and answers so.
-    fn add_round(&mut self, alloc: Global, new: List<Mention>) -> Result<Reply, NoMemory>
-        requires found { (docs : Seq Doc) × (round_at docs self.old ≡ RoundResult.Found new) }
+    /// The answer to a step whose round added these mentions.
+    pub fn stepped(&self, added: &[Mention]) -> Reply
+        requires { (docs : Seq Doc) × (round_at docs self.now ≡ RoundResult.Found added.now) }
+        ensures { result ≡ reply_round self.now (RoundResult.Found added.now) }
+    {
+        Reply::Stepped {
+            round: self.state.rounds.len() as u32 + 1,
+            added: added.len() as u32,
+            phase: phase_after(&self.state, added),
+        }
+    }
+
+    /// Adds what the next round found. Where memory is refused, the session stays as it was.
+    pub fn add_round(&mut self, alloc: Global, added: List<Mention>) -> Result<(), NoMemory>
+        requires found { (docs : Seq Doc) × (round_at docs self.old ≡ RoundResult.Found added) }
         requires going { phase_with self.old self.old.rounds ≡ Phase.Going }
-        ensures replies { IfOk result (λ reply. reply ≡ reply_round self.old (RoundResult.Found new)) }
-        ensures effect { OnOk result (self.new ≡ record self.old { rounds = self.old.rounds ++ new ∷ [] }) }
+        ensures ok { OnOk result (self.new ≡ record self.old { rounds = self.old.rounds ++ added ∷ [] }) }
         ensures err { OnErr result (self.new ≡ self.old) }
     {
-        let round = self.state.rounds.len() as u32 + 1;
-        let added = new.len() as u32;
-        let reply = Reply::Stepped {
-            round,
-            added,
-            phase: phase_after(&self.state, new.get()),
-        };
-        let mentions = self.mentions + added;
-        let weight = self.weight + weigh(new.get());
+        let weight = self.weight + weigh(added.get());
+        let count = added.len() as u32;
+        let mentions = self.mentions + count;
         self.known
-            .extend(alloc, self.state.rounds.get(), new.get())?;
-        self.state.rounds.push(new)?;
+            .extend(alloc, self.state.rounds.get(), added.get())?;
+        self.state.rounds.push(added)?;
         self.mentions = mentions;
         self.weight = weight;
-        Ok(reply)
+        Ok(())
     }
 
-    /// The caller holds the session from now on.
-    pub fn take(&mut self, caller: u32)
-        ensures { self.new ≡ taken_by caller self.old }
+    /// The session has this holder, or none, from now on.
+    pub fn hold(&mut self, holder: Option<u32>)
+        ensures { self.new ≡ record self.old { holder = holder } }
     {
-        self.state.holder = Some(caller);
-    }
-
-    /// Nobody holds the session from now on.
-    pub fn let_go(&mut self)
-        ensures { self.new ≡ let_go self.old }
-    {
-        self.state.holder = None;
+        self.state.holder = holder;
     }
 }

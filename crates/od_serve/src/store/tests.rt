@@ -1,25 +1,17 @@
-ghost use Rattle.std.specs.Prelude.{IfOk};
-ghost use Rattle.od_model.specs.Script.Runnable.{IsQuery};
-
 use super::Store;
-use od_model::grammar::{GrammarKind, Head};
-use od_model::history::{Command, Phase, Reply};
+use super::change::Answer;
+use crate::examples::{Ask, DOGS, command, head};
+use od_model::conllu::ConlluKind;
+use od_model::history::{Command, Phase, Refusal, Reply};
 use od_model::text::{Bytes, NoMemory, Text};
-use std::alloc::Global;
+use std::alloc::{AllocError, Global};
+use std::process::Abort;
 use std::test::Fail;
 
-/// The query `dogs bark`, which the script names `q`.
-fn head(alloc: Global) -> Result<Head, NoMemory>
-    ensures { IfOk result IsQuery }
-{
-    Ok(Head {
-        name: Text::from_str(alloc, "q")?,
-        kind: GrammarKind::Query,
-        text: Text::from_str(alloc, "dogs bark")?,
-    })
-}
+/// A sentence of the word `bark`.
+const BARK: &[u8] = b"1\tbark\t_\t_\t_\t_\t_\t_\t_\t_\n\n";
 
-/// The answer to a command of a script that names one grammar.
+/// The answer to a command of a script that names one grammar, after its change was made.
 fn asked(
     store: &mut Store,
     alloc: Global,
@@ -27,34 +19,46 @@ fn asked(
     command: Command,
 ) -> Result<Reply, NoMemory> {
     let heads = [head(alloc)?];
-    store.answer(alloc, &heads, caller, &command)
+    let Answer { reply, change } = store.answer(alloc, &heads, caller, &command)?;
+    store.change(alloc, change)?;
+    Ok(reply)
 }
 
-fn add(alloc: Global, body: &[u8]) -> Result<Command, NoMemory> {
-    Ok(Command::AddDoc {
-        name: Text::from_str(alloc, "d")?,
-        body: Bytes::from_slice(alloc, body)?,
-    })
+/// The refusal of a command, if it is refused.
+fn refusal(
+    store: &mut Store,
+    alloc: Global,
+    caller: u32,
+    command: Command,
+) -> Result<Option<Refusal>, NoMemory> {
+    match asked(store, alloc, caller, command)? {
+        Reply::Refused(refusal) => Ok(Some(refusal)),
+        _ => Ok(None),
+    }
 }
 
-fn open(alloc: Global, limit: u32) -> Result<Command, NoMemory> {
-    Ok(Command::OpenSession {
-        name: Text::from_str(alloc, "s")?,
-        grammar: Text::from_str(alloc, "q")?,
-        limit,
-    })
+/// Asks one after another of an empty object, and compares the refusals.
+fn refuses(
+    rt: &impl Abort,
+    alloc: Global,
+    asks: &[(u32, Ask, Option<Refusal>)],
+) -> Result<(), NoMemory> {
+    let mut store = Store::new(alloc);
+    for (caller, ask, wanted) in asks {
+        let refused = refusal(&mut store, alloc, *caller, command(alloc, *ask)?)?;
+        assert_eq!(rt; refused, *wanted, "to {ask:?}");
+    }
+    Ok(())
 }
 
 /// With memory at hand no command of a session's life is answered by want of it.
 #[test]
 fn a_session_is_opened_run_printed_released_and_resumed(rt: HostRuntime) -> Result<(), Fail> {
     let alloc = rt.alloc();
-    let name = || Text::from_str(alloc, "s");
     let mut store = Store::new(alloc);
-    let body = b"1\tDogs\t_\t_\t_\t_\t_\t_\t_\t_\n2\tbark\t_\t_\t_\t_\t_\t_\t_\t_\n";
-    let reply = asked(&mut store, alloc, 1, add(alloc, body)?)?;
+    let reply = asked(&mut store, alloc, 1, command(alloc, Ask::Add(DOGS))?)?;
     assert!(rt; matches!(reply, Reply::Added { documents: 1 }));
-    let reply = asked(&mut store, alloc, 1, open(alloc, 5)?)?;
+    let reply = asked(&mut store, alloc, 1, command(alloc, Ask::Open("q", 5))?)?;
     assert!(rt;
         matches!(
             reply,
@@ -64,7 +68,7 @@ fn a_session_is_opened_run_printed_released_and_resumed(rt: HostRuntime) -> Resu
             }
         )
     );
-    let reply = asked(&mut store, alloc, 1, Command::Step { name: name()? })?;
+    let reply = asked(&mut store, alloc, 1, command(alloc, Ask::Step)?)?;
     assert!(rt;
         matches!(
             reply,
@@ -75,7 +79,7 @@ fn a_session_is_opened_run_printed_released_and_resumed(rt: HostRuntime) -> Resu
             }
         )
     );
-    let reply = asked(&mut store, alloc, 1, Command::Step { name: name()? })?;
+    let reply = asked(&mut store, alloc, 1, command(alloc, Ask::Step)?)?;
     assert!(rt;
         matches!(
             reply,
@@ -86,7 +90,7 @@ fn a_session_is_opened_run_printed_released_and_resumed(rt: HostRuntime) -> Resu
             }
         )
     );
-    let reply = asked(&mut store, alloc, 1, Command::Print { name: name()? })?;
+    let reply = asked(&mut store, alloc, 1, command(alloc, Ask::Print)?)?;
     assert!(rt;
         matches!(
             reply,
@@ -97,9 +101,9 @@ fn a_session_is_opened_run_printed_released_and_resumed(rt: HostRuntime) -> Resu
             }
         )
     );
-    let reply = asked(&mut store, alloc, 1, Command::Release { name: name()? })?;
+    let reply = asked(&mut store, alloc, 1, command(alloc, Ask::Release)?)?;
     assert!(rt; matches!(reply, Reply::Released));
-    let reply = asked(&mut store, alloc, 2, Command::Resume { name: name()? })?;
+    let reply = asked(&mut store, alloc, 2, command(alloc, Ask::Resume)?)?;
     assert!(rt;
         matches!(
             reply,
@@ -112,10 +116,169 @@ fn a_session_is_opened_run_printed_released_and_resumed(rt: HostRuntime) -> Resu
             }
         )
     );
-    let reply = asked(&mut store, alloc, 2, Command::Settle)?;
+    let reply = asked(&mut store, alloc, 2, command(alloc, Ask::Settle)?)?;
     let Reply::Settled { sizes } = &reply else {
         panic!(rt; "sizes");
     };
     assert_eq!(rt; sizes.get(), [1].as_slice());
+    Ok(())
+}
+
+/// A document is bad before it is a duplicate.
+#[test]
+fn a_document_of_a_name_is_added_once(rt: HostRuntime) -> Result<(), Fail> {
+    let bad = Refusal::BadDoc {
+        line: 1,
+        kind: ConlluKind::Empty,
+    };
+    refuses(
+        &rt,
+        rt.alloc(),
+        &[
+            (1, Ask::Add(DOGS), None),
+            (2, Ask::Add(DOGS), Some(Refusal::Duplicate)),
+            (2, Ask::Add(b"# no sentence\n"), Some(bad)),
+        ],
+    )?;
+    Ok(())
+}
+
+/// An opening is refused for its grammar, then its limit, then its name.
+#[test]
+fn an_opening_is_refused_in_this_order(rt: HostRuntime) -> Result<(), Fail> {
+    refuses(
+        &rt,
+        rt.alloc(),
+        &[
+            (1, Ask::Open("q", 100), None),
+            (1, Ask::Open("r", 0), Some(Refusal::NoGrammar)),
+            (1, Ask::Open("q", 0), Some(Refusal::BadLimit { limit: 0 })),
+            (
+                1,
+                Ask::Open("q", 101),
+                Some(Refusal::BadLimit { limit: 101 }),
+            ),
+            (1, Ask::Open("q", 1), Some(Refusal::Taken)),
+        ],
+    )?;
+    Ok(())
+}
+
+/// A session is its holder's until it is released, and then the one's who resumes it.
+#[test]
+fn a_session_has_one_holder(rt: HostRuntime) -> Result<(), Fail> {
+    let first = Some(Refusal::Busy { owner: 1 });
+    let second = Some(Refusal::Busy { owner: 2 });
+    let free = Some(Refusal::NotHeld);
+    refuses(
+        &rt,
+        rt.alloc(),
+        &[
+            (2, Ask::Step, Some(Refusal::NoSession)),
+            (1, Ask::Open("q", 1), None),
+            (2, Ask::Step, first),
+            (2, Ask::Print, first),
+            (2, Ask::Release, first),
+            (2, Ask::Resume, first),
+            (1, Ask::Release, None),
+            (2, Ask::Step, free),
+            (2, Ask::Print, free),
+            (2, Ask::Release, free),
+            (2, Ask::Resume, None),
+            (2, Ask::Resume, second),
+        ],
+    )?;
+    Ok(())
+}
+
+/// No step follows a round that finished the session, nor the last one that its limit allows.
+#[test]
+fn a_session_that_ended_is_not_stepped(rt: HostRuntime) -> Result<(), Fail> {
+    refuses(
+        &rt,
+        rt.alloc(),
+        &[
+            (1, Ask::Open("q", 5), None),
+            (1, Ask::Step, None),
+            (1, Ask::Step, Some(Refusal::Finished { round: 1 })),
+        ],
+    )?;
+    refuses(
+        &rt,
+        rt.alloc(),
+        &[
+            (1, Ask::Add(DOGS), None),
+            (1, Ask::Open("q", 1), None),
+            (1, Ask::Step, None),
+            (1, Ask::Step, Some(Refusal::AtLimit { round: 1 })),
+        ],
+    )?;
+    Ok(())
+}
+
+/// A session is resumed only where the script names its grammar.
+#[test]
+fn a_session_is_resumed_with_its_grammar(rt: HostRuntime) -> Result<(), Fail> {
+    let alloc = rt.alloc();
+    let mut store = Store::new(alloc);
+    asked(&mut store, alloc, 1, command(alloc, Ask::Open("q", 1))?)?;
+    asked(&mut store, alloc, 1, command(alloc, Ask::Release)?)?;
+    let answer = store.answer(alloc, &[], 1, &command(alloc, Ask::Resume)?)?;
+    assert!(rt; matches!(answer.reply, Reply::Refused(Refusal::NoGrammar)));
+    Ok(())
+}
+
+/// Of 129 sessions the last has no room.
+#[test]
+fn there_is_room_for_128_sessions(rt: HostRuntime) -> Result<(), Fail> {
+    let alloc = rt.alloc();
+    let mut store = Store::new(alloc);
+    for number in 0..129 {
+        let opening = Command::OpenSession {
+            name: Text::from_string(format!(in alloc; "s{number}")?),
+            grammar: Text::from_str(alloc, "q")?,
+            limit: 1,
+        };
+        let refused = refusal(&mut store, alloc, 1, opening)?;
+        let full = (number == 128).then_some(Refusal::NoRoom { count: 128 });
+        assert_eq!(rt; refused, full);
+    }
+    Ok(())
+}
+
+/// A document of so many sentences of the word `bark`.
+fn barks(alloc: Global, name: &str, sentences: u32) -> Result<Command, AllocError> {
+    let mut body = Vec::new(alloc);
+    for _sentence in 0..sentences {
+        body.extend_from_slice(BARK)?;
+    }
+    Ok(Command::AddDoc {
+        name: Text::from_string(String::from_str(alloc, name)?),
+        body: Bytes::from_vec(body),
+    })
+}
+
+/// Of 100,000 mentions and one more, the one more weighs too much; the session stays as it was.
+#[test]
+fn a_session_takes_a_weight_of_100000(rt: HostRuntime) -> Result<(), Fail> {
+    let alloc = rt.alloc();
+    let mut store = Store::new(alloc);
+    for (name, sentences) in [("a", 40000), ("b", 40000), ("c", 20001)] {
+        asked(&mut store, alloc, 1, barks(alloc, name, sentences)?)?;
+    }
+    asked(&mut store, alloc, 1, command(alloc, Ask::Open("q", 5))?)?;
+    let refused = refusal(&mut store, alloc, 1, command(alloc, Ask::Step)?)?;
+    assert_eq!(rt; refused, Some(Refusal::TooMany { weight: 100001 }));
+    let reply = asked(&mut store, alloc, 1, command(alloc, Ask::Print)?)?;
+    assert!(rt;
+        matches!(
+            reply,
+            Reply::Printed {
+                round: 0,
+                mentions: 0,
+                phase: Phase::Going
+            }
+        )
+    );
     Ok(())
 }

@@ -4,7 +4,7 @@ use Rattle.od_model.specs.Matching.Rules.{mention_at, labelled, mentions}
 use Rattle.od_model.specs.Matching.Words.{words_surface, begins_with}
 use Rattle.od_model.proofs.Matching.Words.{FoundBefore, FoundBefore-start, FoundBefore-none, FoundBefore-some, FoundBefore-end}
 use Rattle.od_model.proofs.Matching.Distinct.{one_part-scan}
-use Rattle.od_serve.specs.Queries.{words_rule}
+use Rattle.od_model.specs.Grammars.Query.{words_rule}
 use Rattle.od_serve.proofs.Scans.{rest_of}
 use Rattle.od_serve.proofs.scan.mentions_of.Goals as goal
 

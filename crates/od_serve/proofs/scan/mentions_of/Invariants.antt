@@ -4,7 +4,7 @@ use Rattle.od_model.specs.declared.mention.Mention.{Mention}
 use Rattle.od_model.specs.Matching.Rules.{mention_at, labelled}
 use Rattle.od_model.specs.Matching.Words.{words_surface}
 use Rattle.od_model.proofs.Matching.Words.{FoundBefore}
-use Rattle.od_serve.specs.Queries.{words_rule}
+use Rattle.od_model.specs.Grammars.Query.{words_rule}
 use Rattle.od_serve.proofs.scan.mentions_of.Given as goal
 
 abbrev pub invariant-loop-i : goal.invariant-loop-i

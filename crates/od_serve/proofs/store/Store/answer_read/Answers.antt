@@ -1,9 +1,10 @@
-use Rattle.std.proofs.Common.{ap, sym, ◌∙◌, ◌++◌}
-use Rattle.od_model.specs.Object.Effects.{doc_made}
-use Rattle.od_model.proofs.Document.Existence.{Reads-document_of}
+use Rattle.std.proofs.Common.{◌∙◌, sym}
+use Rattle.od_serve.proofs.Stores.Answers.{answer-added}
 use Rattle.od_serve.proofs.store.Store.answer_read.Goals as goal
 
-pub returns-clause-effect : goal.returns-clause-effect
-returns-clause-effect c heads caller =
+pub returns : goal.returns
+returns c heads caller =
     let reads = rw c.in-Ok.is at c.requires in
-    c.in_ok-add_doc.ensures.ok ∙ ap (λ made. record { docs = c.args.self.now.docs ++ doc_made made; sessions = c.args.self.now.sessions }) (sym (Reads-document_of c.args.name.now c.args.body.now c.in-Ok.doc reads))
+    let new = rw (← c.self.view_is) at (sym c.has_doc.ensures ∙ c.if-has_doc.false) in
+    let room = rw (← c.self.view_is) at (sym c.is_full.ensures ∙ c.if-is_full.false) in
+    rw (c.len.ensures, c.self.inside.docs.ok.0, ← c.self.view_is) (answer-added heads (record { docs = c.self.inside.docs.items; sessions = c.self.inside.sessions.items }) caller c.args.name.now c.args.body.now c.in-Ok.doc reads new room)

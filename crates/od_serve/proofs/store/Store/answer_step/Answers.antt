@@ -1,37 +1,24 @@
-use Rattle.std.proofs.Common.{◌≡◌, ◌∙◌, ap, subst, sym, slice_set}
-use Rattle.od_model.specs.Object.Effects.{change}
-use Rattle.od_model.specs.Object.Replies.{reply_step}
-use Rattle.od_serve.specs.Stores.Kept.{IsKept}
-use Rattle.od_serve.specs.Stores.Steps.{step_reply, after_step}
-use Rattle.od_serve.proofs.Stores.Changes.{written-back, kept-change}
+use Rattle.std.proofs.Common.{◌≡◌, ◌∙◌, ap}
+use Rattle.od_model.specs.declared.object.OneThread.{OneThread}
+use Rattle.od_serve.proofs.Stores.Answers.{answer-not_stepped, answer-stepped}
 use Rattle.od_serve.proofs.Stores.Places.{read-at}
-use Rattle.od_serve.proofs.Stores.Steps.{step-docs, after_step-name, effect-step}
 use Rattle.od_serve.proofs.store.Store.answer_step.Goals as goal
 
-in-place : (c : goal.In_ok-reply) → slice_set c.self.inside.sessions.items c.in-Ok.i c.step.new.self ≡ change c.args.name.now (λ s. after_step c.self.inside.docs.items s c.in_ok-reply.reply) c.self.inside.sessions.items
-in-place c =
-    let e = rw (← c.self.view_is) at c.in-Ok.ensures in
-    let becomes = rw c.deref.ensures.value at c.in_ok-reply.ensures.effect in
-    written-back c.args.name.now (λ s. after_step c.self.inside.docs.items s c.in_ok-reply.reply) c.self.inside.sessions.items c.in-Ok.i e.0 c.index_mut-session.result.now c.step.new.self c.self.invariant.distinct e.1 e.2 c.index_mut-session.ensures.value becomes
+-- the documents that the session was lent
+pub returns-in-Err-2 : goal.returns-in-Err-2
+returns-in-Err-2 c heads =
+    let (s, at, found, changes, holds) = c.in-Ok.ensures in
+    let there = rw (← c.self.view_is) at at in
+    let same : c.index-session.result.now ≡ s = read-at c.self.inside.sessions.items c.in-Ok.place s c.index-session.result.now there c.index-session.ensures in
+    let docs : c.deref.result.now ≡ c.args.self.now.docs = c.deref.ensures.value ∙ ap (λ (o : OneThread). o.docs) c.self.view_is in
+    let refused = rw c.in-Err-2.is at c.in_ok-refusal.ensures in
+    rw c.refused-in-Err-2.ensures (answer-not_stepped heads c.args.self.now c.args.caller c.args.name.now s c.in-Ok.place at found changes holds c.in-Err-2.refusal (rw (docs, same) at refused))
 
-pub invariant_of-self-2 : goal.invariant_of-self-2
-invariant_of-self-2 c =
-    let s = c.self.inside in
-    subst (λ sessions. IsKept s.docs.items s.doc_names s.bytes s.sentences sessions s.session_names) (sym (in-place c))
-    (kept-change s.docs.items s.doc_names s.bytes s.sentences s.sessions.items s.session_names c.args.name.now (λ t. after_step s.docs.items t c.in_ok-reply.reply) (λ t. after_step-name s.docs.items t c.in_ok-reply.reply) c.self.invariant)
-
-pub returns-clause-replies : goal.returns-clause-replies
-returns-clause-replies c =
-    let s = c.self.inside in
-    let e = rw (← c.self.view_is) at c.in-Ok.ensures in
-    let same : c.index_mut-session.result.now ≡ e.0 = read-at s.sessions.items c.in-Ok.i e.0 c.index_mut-session.result.now e.1 c.index_mut-session.ensures.value in
-    let replied = rw c.deref.ensures.value at c.in_ok-reply.ensures.replies in
-    rw (← c.self.view_is) (replied ∙ ap (step_reply s.docs.items) same
-    ∙ sym (step-docs (record { docs = s.docs.items; sessions = s.sessions.items }) e.0)
-    ∙ sym (ap (reply_step (record { docs = s.docs.items; sessions = s.sessions.items })) e.3))
-
-pub returns-clause-effect : goal.returns-clause-effect
-returns-clause-effect c heads =
-    let s = c.self.inside in
-    rw (← c.self.view_is) (ap (λ sessions. record { docs = s.docs.items; sessions = sessions }) (in-place c)
-    ∙ sym (effect-step heads (record { docs = s.docs.items; sessions = s.sessions.items }) c.args.caller c.args.name.now c.in_ok-reply.reply))
+pub returns-in-Ok-2 : goal.returns-in-Ok-2
+returns-in-Ok-2 c heads =
+    let (s, at, found, changes, holds) = c.in-Ok.ensures in
+    let there = rw (← c.self.view_is) at at in
+    let same : c.index-session.result.now ≡ s = read-at c.self.inside.sessions.items c.in-Ok.place s c.index-session.result.now there c.index-session.ensures in
+    let docs : c.deref.result.now ≡ c.args.self.now.docs = c.deref.ensures.value ∙ ap (λ (o : OneThread). o.docs) c.self.view_is in
+    let next = rw (docs, same) at (rw c.in-Ok-2.is at c.in_ok-refusal.ensures) in
+    answer-stepped heads c.args.self.now c.args.caller c.args.name.now s c.in-Ok.place at found changes holds c.in-Ok-2.added c.stepped.result next.0 next.1 (rw (c.get.ensures, same) at c.stepped.ensures)

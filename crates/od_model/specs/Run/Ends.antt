@@ -1,8 +1,5 @@
 -- How the top call may end.
 use Rattle.std.specs.Prelude.{◌≡◌, ◌⊎◌, ℕ, List, Option}
-use Rattle.std.specs.Io.KnownBytes.{Appends}
-use Rattle.od_io.specs.Streams.Count.{Rose}
-use Rattle.od_io.specs.Streams.Writing.{AppendsProperPrefix}
 use Rattle.od_model.specs.declared.status.Status.{Status}
 use Rattle.od_model.specs.declared.status.Status.TheVariants.{Done, Refused, NoScript, NoMemory}
 use Rattle.od_model.specs.Run.Outcome.{IsNoScript}
@@ -15,10 +12,6 @@ Answered status = (status ≡ Done) ⊎ (status ≡ Refused)
 -- where no read and no write failed: every command was answered, the bytes are no script, or memory was refused
 abbrev pub CanEndSo : Status → Option (List ℕ) → Type 0
 CanEndSo status left = Answered status ⊎ (((status ≡ NoScript) × IsNoScript left) ⊎ (status ≡ NoMemory))
-
--- the line was written, or a proper prefix of it where the count of faults rose
-abbrev pub Warns : ℕ → ℕ → Option (List ℕ) → Option (List ℕ) → List ℕ → Type 0
-Warns before now written_before written_now line = Appends written_before written_now line ⊎ (AppendsProperPrefix written_before written_now line × Rose before now)
 
 -- the exit status is that of a way to end of which P holds
 abbrev pub EndsWith : (Status → Type 0) → ℕ → Type 0
