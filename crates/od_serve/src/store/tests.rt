@@ -246,6 +246,51 @@ fn there_is_room_for_128_sessions(rt: HostRuntime) -> Result<(), Fail> {
     Ok(())
 }
 
+/// The document `d` and a number, of these bytes.
+fn numbered(alloc: Global, number: u32, body: &[u8]) -> Result<Command, AllocError> {
+    Ok(Command::AddDoc {
+        name: Text::from_string(format!(in alloc; "d{number}")?),
+        body: Bytes::from_vec(Vec::from_slice(alloc, body)?),
+    })
+}
+
+/// Of 100,001 documents the last has no room.
+#[test]
+fn there_is_room_for_100000_documents(rt: HostRuntime) -> Result<(), Fail> {
+    let alloc = rt.alloc();
+    let mut store = Store::new(alloc);
+    for number in 0..100001 {
+        let refused = refusal(&mut store, alloc, 1, numbered(alloc, number, BARK)?)?;
+        let full = (number == 100000).then_some(Refusal::Full {
+            documents: 100000,
+            bytes: 2400000,
+        });
+        assert_eq!(rt; refused, full);
+    }
+    Ok(())
+}
+
+/// Documents of 128 MiB together have room, and not one of 24 bytes more.
+#[test]
+fn there_is_room_for_128_mebibytes(rt: HostRuntime) -> Result<(), Fail> {
+    let alloc = rt.alloc();
+    let mut store = Store::new(alloc);
+    let mut large = vec![in alloc; b'#'; 1048576 - 25]?;
+    large.push(b'\n')?;
+    large.extend_from_slice(BARK)?;
+    for number in 0..128 {
+        let refused = refusal(&mut store, alloc, 1, numbered(alloc, number, &large)?)?;
+        assert_eq!(rt; refused, None);
+    }
+    let refused = refusal(&mut store, alloc, 1, numbered(alloc, 128, BARK)?)?;
+    let full = Refusal::Full {
+        documents: 128,
+        bytes: 134217728,
+    };
+    assert_eq!(rt; refused, Some(full));
+    Ok(())
+}
+
 /// A document of so many sentences of the word `bark`.
 fn barks(alloc: Global, name: &str, sentences: u32) -> Result<Command, AllocError> {
     let mut body = Vec::new(alloc);
