@@ -3,11 +3,14 @@ pub mod Built
 pub mod Unambiguous
 pub mod Preferred
 pub mod Derived
+pub mod Enclosed
+pub mod Lying
 pub mod Scans
 pub mod Steps
 pub mod Words
 pub mod Distinct
 pub mod Examples
+pub mod PathExamples
 pub mod Tests
 pub mod Spread
 pub mod Reaches

@@ -9,6 +9,7 @@ pub mod Hops
 pub mod Candidates
 pub mod Events
 pub mod Mentions
+pub mod Spans
 pub mod Rules
 pub mod Words
 pub mod Laws

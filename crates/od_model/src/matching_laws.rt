@@ -1,13 +1,15 @@
 //! The laws of derivations, scans, paths and sameness, which hold of every pattern, sentence and mention.
 //!
 //! A law is what a function here ensures; the function itself does nothing.
-ghost use Rattle.od_model.specs.Matching.Laws.{SameChoicesAgree, NoProperFront, StaysWithin, OneBest, ScanIsComputed, OneScan, ReachIsComputed, SamenessIsEquality};
+ghost use Rattle.od_model.specs.Matching.Laws.{SameChoicesAgree, NoProperFront, StaysWithin, CapturesStayWithin, OneBest, ScanIsComputed, OneScan, ReachIsComputed, SamenessIsEquality};
 
 /// The choices of a derivation decide its end and its captures, and none goes on where another has ended.
+/// It takes no token outside the sentence, and its captures lie within what it takes.
 pub fn choices_decide()
     ensures same { SameChoicesAgree }
     ensures front { NoProperFront }
     ensures within { StaysWithin }
+    ensures captures { CapturesStayWithin }
 {}
 
 /// A pattern has at most one best derivation from a place.

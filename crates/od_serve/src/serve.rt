@@ -160,7 +160,7 @@ fn warn<E: Sink>(diag: &mut E, status: Status)
 /// The history that comes back is one legal history of the script from no document and no session: each reply is what the one-thread
 /// object answers there, each client's entries are its commands once and in order, the bytes that the sink took are its lines,
 /// and each print shows the mentions that the rounds find in the documents that were committed when its session was opened.
-pub fn odinson<S: Source + Drop, W: Sink + Drop, E: Sink + Drop>(
+pub fn odinson<S: Source, W: Sink, E: Sink>(
     alloc: Global,
     words: &[String],
     source: S,

@@ -1,5 +1,5 @@
 -- A print of a legal history shows the rounds.
-use Rattle.std.proofs.Common.{◌≡◌, ℕ, List, ◌∷◌, ◌++◌, length, Option, Some, None, Ok, Err, Bool, true, false, if◌then◌else◌, refl, ap, eqb, subst}
+use Rattle.std.proofs.Common.{◌≡◌, ℕ, List, ◌∷◌, ◌++◌, length, take, Option, Some, None, Ok, Err, Bool, true, false, if◌then◌else◌, refl, ap, eqb, subst}
 use Rattle.od_model.specs.declared.grammar.Head.{Head}
 use Rattle.od_model.specs.declared.history.Phase.{Phase}
 use Rattle.od_model.specs.declared.history.Reply.TheVariants.{Printed}
@@ -16,6 +16,7 @@ use Rattle.od_model.specs.History.Lines.{lines_of_session}
 use Rattle.od_model.specs.History.Prints.{IsOpened, ShowsRounds, IsAccepted, PrintsRounds}
 use Rattle.od_model.proofs.Lists.{Each-find, find-passes}
 use Rattle.od_model.proofs.Objects.Names.{same-name}
+use Rattle.od_model.proofs.Rounds.Lying.{rounds-lie}
 use Rattle.od_model.proofs.Histories.Openings.{opening_of, IsOpenedSession, AreOpenedAfter, opened-after}
 use Rattle.od_model.proofs.Histories.Steps.{Legal-front, Legal-at}
 use Rattle.od_model.proofs.Histories.Sound.{IsSound, IsSoundSession, sound-after, grammar-is}
@@ -44,7 +45,7 @@ printed-of o caller name number mentions state (Some s) at e = (s, at, printed-h
 
 shows : (start : OneThread) (heads : List Head) (seen : List Entry) (name : List ℕ) (number mentions : ℕ) (state : Phase) (s : SessionState)
     → IsSound (state_after start heads seen) → AreOpenedAfter start heads seen → session_of name (state_after start heads seen).sessions ≡ Some s → IsPrinted s number mentions state
-    → ShowsRounds start heads seen name number state (lines_of_session (state_after start heads seen).docs name (session_of name (state_after start heads seen).sessions))
+    → ShowsRounds start heads seen name number mentions state (lines_of_session (state_after start heads seen).docs name (session_of name (state_after start heads seen).sessions))
 shows start heads seen name number mentions state s sound opened at p =
     let o = state_after start heads seen in
     let own : IsSoundSession o.docs s = Each-find (IsSoundSession o.docs) (is_named name) s o.sessions sound.sound at in
@@ -57,6 +58,8 @@ shows start heads seen name number mentions state s sound opened at p =
       reads = own.reads;
       lists = s.rounds;
       rounds_are = rw p.number_is own.rounds_are;
+      mentions_are = p.mentions_are;
+      mentions_lie = rounds-lie (take s.documents o.docs) own.grammar (length s.rounds) s.rounds own.rounds_are;
       lines_are = ap (lines_of_session o.docs name) at;
       state_is = rw (grammar-is s own.grammar own.reads) at p.state_is;
       first_finished = own.unfinished;

@@ -109,7 +109,7 @@ module _ (w : World) where
     within (Repeat' v (more_of-Surface p end_of-Surface) turns) = within-turns w.length turns.lazy (derives w p) turns.least turns.most (within p)
     within (Capture' name v (more_of-Surface p end_of-Surface)) = within-Named w.length name (derives w p) (within p)
 
-    within-in_order : {m : _} (row : Row_of-Surface m) → Within w.length (in_order w row)
+    pub within-in_order : {m : _} (row : Row_of-Surface m) → Within w.length (in_order w row)
     within-in_order end_of-Surface = within-Stays w.length
     within-in_order (more_of-Surface p rest) = within-Then w.length _ _ (within p) (within-in_order rest)
 

@@ -9,6 +9,7 @@ use Rattle.od_model.specs.Matching.Derives.{first}
 use Rattle.od_model.specs.Matching.Scan.{Match, scan_from, scan_of}
 use Rattle.od_model.specs.declared.token.Token.{Token}
 use Rattle.od_model.specs.declared.sentence.Sentence.{Sentence}
+use Rattle.od_model.specs.declared.mention.Labelled.{Labelled}
 use Rattle.od_model.specs.declared.pattern.Field.TheVariants.{Norm, Tag}
 use Rattle.od_model.specs.declared.pattern.Value.TheVariants.{Plain}
 use Rattle.od_model.specs.declared.pattern.Constraint as constraint
@@ -93,3 +94,56 @@ first_part_empty = refl
 last_part_empty : scan_of (surface.Alt (plain (codes "b") ∷ up_to 1 true (plain (codes "a")) ∷ [])) a_a_b [] ≡ match 2 3 [] ∷ []
 unfolding scan_of scan_from first holds hidden hidden-the_row-Surface-0 hidden-the_row-Surface-1
 last_part_empty = refl
+
+-- a capture in a repeat stands once for each turn, and an outer one before those inside it
+one_each_turn : scan_of (surface.Capture (codes "x") (endless 1 false (surface.Capture (codes "y") (plain (codes "a"))))) a_a_b []
+    ≡ match 0 2 ((record { name = codes "x"; start = 0; end = 2 }) ∷ (record { name = codes "y"; start = 0; end = 1 }) ∷ (record { name = codes "y"; start = 1; end = 2 }) ∷ []) ∷ []
+unfolding scan_of scan_from first holds hidden hidden-the_row-Surface-0 hidden-the_row-Surface-1
+one_each_turn = refl
+
+abbrev span_of : List ℕ → ℕ → ℕ → Labelled
+span_of label start end = record { label = label; span = record { start = start; end = end } }
+
+-- `@L` takes the longest span with the label, whatever was added first
+longest_span : scan_of (surface.Label (codes "L")) a_a_b (span_of (codes "L") 0 1 ∷ span_of (codes "L") 0 2 ∷ span_of (codes "M") 0 3 ∷ []) ≡ match 0 2 [] ∷ []
+unfolding scan_of scan_from first holds hidden hidden-the_row-Surface-0 hidden-the_row-Surface-1
+longest_span = refl
+
+-- NN NN VB
+abbrev n_n_v : Sentence
+n_n_v = tagged (codes "NN") (codes "NN") (codes "VB")
+
+abbrev look : Bool → Bool → List ℕ → Surface
+look ahead positive text = surface.Look ahead positive (constraint.Is Tag (Plain text))
+
+abbrev any : Surface
+any = surface.Token constraint.Any
+
+-- `[] (?=[tag=VB])`
+before_a_verb : scan_of (surface.Seq (any ∷ look true true (codes "VB") ∷ [])) n_n_v [] ≡ match 1 2 [] ∷ []
+unfolding scan_of scan_from first holds hidden hidden-the_row-Surface-0 hidden-the_row-Surface-1
+before_a_verb = refl
+
+-- `[] (?![tag=NN])`: behind the last token there is none, so the negative form holds there
+before_no_noun : scan_of (surface.Seq (any ∷ look true false (codes "NN") ∷ [])) n_n_v [] ≡ match 1 2 [] ∷ match 2 3 [] ∷ []
+unfolding scan_of scan_from first holds hidden hidden-the_row-Surface-0 hidden-the_row-Surface-1
+before_no_noun = refl
+
+-- `(?<=[tag=NN]) []`
+behind_a_noun : scan_of (surface.Seq (look false true (codes "NN") ∷ any ∷ [])) n_n_v [] ≡ match 1 2 [] ∷ match 2 3 [] ∷ []
+unfolding scan_of scan_from first holds hidden hidden-the_row-Surface-0 hidden-the_row-Surface-1
+behind_a_noun = refl
+
+-- `(?<![tag=NN]) []`: before the first token there is none
+behind_no_noun : scan_of (surface.Seq (look false false (codes "NN") ∷ any ∷ [])) n_n_v [] ≡ match 0 1 [] ∷ []
+unfolding scan_of scan_from first holds hidden hidden-the_row-Surface-0 hidden-the_row-Surface-1
+behind_no_noun = refl
+
+-- `^ []` and `[] $`
+at_the_beginning : scan_of (surface.Seq (surface.First ∷ any ∷ [])) n_n_v [] ≡ match 0 1 [] ∷ []
+unfolding scan_of scan_from first holds hidden hidden-the_row-Surface-0 hidden-the_row-Surface-1
+at_the_beginning = refl
+
+at_the_end : scan_of (surface.Seq (any ∷ surface.Last ∷ [])) n_n_v [] ≡ match 2 3 [] ∷ []
+unfolding scan_of scan_from first holds hidden hidden-the_row-Surface-0 hidden-the_row-Surface-1
+at_the_end = refl

@@ -13,7 +13,8 @@ use Rattle.od_model.specs.declared.history.Entry.{Entry}
 use Rattle.od_model.specs.declared.object.SessionState.{SessionState}
 use Rattle.od_model.specs.declared.object.OneThread.{OneThread}
 use Rattle.od_model.specs.Grammars.Query.{grammar_of}
-use Rattle.od_model.specs.Lists.{EachPoint}
+use Rattle.od_model.specs.Lists.{Each, EachPoint}
+use Rattle.od_model.specs.Matching.Spans.{LiesIn}
 use Rattle.od_model.specs.Rounds.Round.{rounds, joined}
 use Rattle.od_model.specs.Rounds.Phases.{phase, greatest_first}
 use Rattle.od_model.specs.Object.Parts.{head_of, session_of}
@@ -50,15 +51,17 @@ pub record IsOpenedBefore (start : OneThread) (name : List ℕ) (opening : Openi
 abbrev pub IsOpened : OneThread → List Head → List Entry → List ℕ → Opening → Type 0
 IsOpened start heads seen name opening = IsOpenedWithin start heads seen name opening ⊎ IsOpenedBefore start name opening
 
--- the printed lines are those of the mentions that the priority rounds find in the documents that were committed when the session was opened;
--- the session finishes first where the definition says so
-pub record ShowsRounds (start : OneThread) (heads : List Head) (seen : List Entry) (name : List ℕ) (number : ℕ) (state : Phase) (lines : List ℕ) : Type 0 where
+-- the printed lines are those of the mentions that the priority rounds find in the documents that were committed when the session was opened:
+-- as many as the print says, each in a sentence of these documents; the session finishes first where the definition says so
+pub record ShowsRounds (start : OneThread) (heads : List Head) (seen : List Entry) (name : List ℕ) (number mentions : ℕ) (state : Phase) (lines : List ℕ) : Type 0 where
   pub opening : Opening
   pub opened : IsOpened start heads seen name opening
   pub grammar : Grammar
   pub reads : grammar_of opening.kind opening.text ≡ Some grammar
   pub lists : List (List Mention)
   pub rounds_are : rounds opening.docs grammar number ≡ Some lists
+  pub mentions_are : mentions ≡ length (joined lists)
+  pub mentions_lie : Each (LiesIn opening.docs) (joined lists)
   pub lines_are : lines ≡ flat_map (mention_line name (state_after start heads seen).docs) (joined lists)
   pub state_is : state ≡ phase (greatest_first grammar.rules) opening.limit lists
   pub first_finished : EachPoint (λ before list. phase (greatest_first grammar.rules) opening.limit before ≢ Finished) lists
@@ -71,4 +74,4 @@ IsAccepted head = (grammar : Grammar) × (grammar_of head.kind head.text ≡ Som
 abbrev pub PrintsRounds : OneThread → List Head → List Entry → Type 0
 PrintsRounds start heads history = (front : List Entry) (e : Entry) (rest : List Entry) (name : List ℕ) (round mentions : ℕ) (state : Phase)
     → history ≡ front ++ e ∷ rest → e.command ≡ Print name → e.reply ≡ Printed round mentions state
-    → ShowsRounds start heads front name round state (lines_before (state_after start heads front) e.command e.reply)
+    → ShowsRounds start heads front name round mentions state (lines_before (state_after start heads front) e.command e.reply)

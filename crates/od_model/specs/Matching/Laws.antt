@@ -1,5 +1,6 @@
 -- The laws of derivations, scans, paths and sameness.
 use Rattle.std.specs.Prelude.{◌≡◌, ◌↔◌, IsTrue, ℕ, ◌<◌, ◌≤◌, true, List, [], ◌++◌, length}
+use Rattle.od_model.specs.Lists.{Each}
 use Rattle.od_model.specs.Matching.Choice.{Capture}
 use Rattle.od_model.specs.Matching.Derives.{World, derives}
 use Rattle.od_model.specs.Matching.Scan.{IsBest, Match, Scans, world_in, scan_of}
@@ -24,6 +25,14 @@ NoProperFront =
 -- a derivation takes no token outside the sentence
 abbrev pub StaysWithin : Type 0
 StaysWithin = (w : World) (p : Surface) (i j : ℕ) (c : List Capture) (t : List ℕ) → i ≤ w.length → derives w p i j c t → (i ≤ j) × (j ≤ w.length)
+
+-- a capture lies from i to j
+abbrev pub IsInside : ℕ → ℕ → Capture → Type 0
+IsInside i j x = (i ≤ x.start) × (x.start ≤ x.end) × (x.end ≤ j)
+
+-- the captures of a derivation lie within what it takes
+abbrev pub CapturesStayWithin : Type 0
+CapturesStayWithin = (w : World) (p : Surface) (i j : ℕ) (c : List Capture) (t : List ℕ) → i ≤ w.length → derives w p i j c t → Each (IsInside i j) c
 
 -- at a place there is at most one best derivation
 abbrev pub OneBest : Type 0

@@ -1,4 +1,5 @@
 use Rattle.od_model.proofs.Matching.Derived.{within}
+use Rattle.od_model.proofs.Matching.Enclosed.{encloses}
 use Rattle.od_model.proofs.Matching.Scans.{same_choices, no_front}
 use Rattle.od_model.proofs.matching_laws.choices_decide.Goals as goal
 
@@ -10,3 +11,6 @@ returns-clause-front c = no_front
 
 pub returns-clause-within : goal.returns-clause-within
 returns-clause-within c = within
+
+pub returns-clause-captures : goal.returns-clause-captures
+returns-clause-captures c = encloses
