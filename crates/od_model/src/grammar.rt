@@ -23,5 +23,6 @@ pub struct Grammar {
 pub struct Head {
     pub name: Text,
     pub kind: GrammarKind,
+    /// The rule file, or the query's pattern.
     pub text: Text,
 }

@@ -19,37 +19,44 @@ pub struct Labelled {
     pub span: Span,
 }
 
-/// A named span within a mention: a capture, or an argument.
+/// A named span of a mention's sentence: a capture, or an argument. It may have no token.
 #[derive(Debug, Drop)]
 pub struct Part {
     pub name: Text,
+    /// An argument's label, where its rule gives it one; a capture has none.
     pub label: Option<Text>,
     pub start: u32,
     pub end: u32,
 }
 
-/// What a rule found: documents, sentences and tokens are numbered from 0, the end is not included.
+/// What a rule found: documents, the sentences of each and the tokens of each sentence are numbered from 0, the end is not included.
 #[derive(Debug, Drop)]
 pub struct Mention {
     pub document: u32,
     pub sentence: u32,
     pub start: u32,
     pub end: u32,
+    /// The label of the rule.
     pub label: Text,
+    /// The name of the rule.
     pub rule: Text,
+    /// The captures in the order in which they begin, then the arguments in the order of the rule.
     pub parts: List<Part>,
 }
 
 /// What a round gives: the new mentions in their order, or why it is refused.
 #[derive(Debug, Drop)]
 pub enum RoundResult {
+    /// The mentions that it adds.
     Found(List<Mention>),
+    /// A rule, numbered from 1, gives too many mentions on a sentence: the first count above 10,000.
     Crowded {
         rule: u32,
         document: u32,
         sentence: u32,
         count: u64,
     },
+    /// With one mention more the session would weigh so much, which is above 100,000.
     TooMany {
         weight: u64,
     },

@@ -10,11 +10,16 @@ use crate::text::Text;
 #[derive(Debug, Drop)]
 pub struct SessionState {
     pub name: Text,
+    /// The kind and the text of its grammar.
     pub kind: GrammarKind,
     pub text: Text,
+    /// It belongs to the first so many documents.
     pub documents: u32,
+    /// In rounds.
     pub limit: u32,
+    /// What each round added.
     pub rounds: List<List<Mention>>,
+    /// The caller that holds it, if one does.
     pub holder: Option<u32>,
 }
 

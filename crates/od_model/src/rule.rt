@@ -21,9 +21,13 @@ pub struct Hop {
 /// The quantifier of an argument.
 #[derive(Clone, Copy, Debug, PartialEq, Eq)]
 pub enum Many {
+    /// One of the candidates, of which there must be one.
     One,
+    /// One of the candidates, or nothing where there is none.
     Optional,
+    /// All candidates together, which may be none.
     All,
+    /// All candidates together, of which there must be one.
     AllOne,
 }
 
@@ -31,8 +35,10 @@ pub enum Many {
 #[derive(Debug, Drop)]
 pub struct Argument {
     pub name: Text,
+    /// With a label the candidates are spans of mentions that have it; without one they are single tokens.
     pub label: Option<Text>,
     pub many: Many,
+    /// How the candidates are reached from the tokens of the trigger.
     pub path: Path,
 }
 
@@ -46,7 +52,9 @@ pub struct EventRule {
 /// What a rule looks for.
 #[derive(Debug, Drop)]
 pub enum Body {
+    /// Each last match, with the captures on the way to it.
     Basic(Hop),
+    /// Each match of a trigger, with arguments around it.
     Event(EventRule),
 }
 
@@ -61,6 +69,7 @@ pub struct Priority {
 #[derive(Debug, Drop)]
 pub struct Rule {
     pub name: Text,
+    /// The label of its mentions.
     pub label: Text,
     pub priority: Priority,
     pub body: Body,

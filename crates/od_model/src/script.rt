@@ -8,12 +8,15 @@ use crate::text::Text;
 #[derive(Debug, Drop)]
 pub enum Order {
     One(Command),
+    /// The session's name.
     Run(Text),
 }
 
 /// A script that was read.
 #[derive(Debug, Drop)]
 pub struct Script {
+    /// The grammars that `open` may name.
     pub heads: List<Head>,
+    /// The orders of each client; the first client is caller 1.
     pub clients: List<List<Order>>,
 }

@@ -24,13 +24,19 @@ mod tests;
 /// The most bytes that a script may have: 64 MiB.
 const MOST_BYTES: usize = 67108864;
 
-/// How the top call ended: its exit status, the history of answered commands, and what was handed in.
+/// How the top call ended.
 #[derive(Drop)]
 pub struct Ended<S, W, E> {
+    /// The exit status: 0 where every command was answered and none refused, 1 where some were refused, 2 for other words
+    /// than the program's, 3 where the input is no script, 7 where a read failed, 8 where a write did, 9 where memory was refused.
     pub status: u8,
+    /// The answered commands, in the order of their answers. With status 8 the lines of the last one are cut short.
     pub history: Vec<Entry>,
+    /// The source, as far as it was read.
     pub source: S,
+    /// The sink, with the lines that it took.
     pub sink: W,
+    /// The diagnostic sink, with the status's line from 2 on.
     pub diag: E,
 }
 
@@ -170,8 +176,9 @@ pub fn odinson<S: Source, W: Sink, E: Sink>(
     // How it ended, and what the history and the sink are then.
     ensures outcome { EndsWith (λ status. Outcome status result.history.items (S.left source) (W.written sink) (W.written result.sink)) result.status }
 
-    // Usage exactly where the words are not those of the program.
+    // Usage exactly where the words are not those of the program; then nothing is read and nothing answered.
     ensures usage { (result.status ≡ 2) ↔ (is_serve (map string_bytes words.now) ≡ false) }
+    ensures unread { result.status ≡ 2 → (result.source ≡ source) × (result.sink ≡ sink) }
 
     // A fault only where a count of faults rose. Counts never fall.
     ensures read { result.status ≡ 7 → Rose (S.faults source) (S.faults result.source) }
