@@ -1,8 +1,9 @@
 -- Rounds over short documents, worked out.
-use Rattle.std.proofs.Common.{◌≡◌, ℕ, List, [], ◌∷◌, refl, lit<, lit≤}
+use Rattle.std.proofs.Common.{◌≡◌, ℕ, ◌<◌, ◌≤◌, List, [], ◌∷◌, length, refl, lit<, lit≤}
 use Rattle.std.proofs.lemmas.List.Elements.{All-nil}
 use Rattle.std.specs.Prelude.{false, codes, Some, None}
 use denote.Hole.Carrier.{hidden}
+use Rattle.od_model.specs.Document.Weight.{weight_of}
 use Rattle.od_model.specs.Matching.Derives.{first}
 use Rattle.od_model.specs.Matching.Holds.{holds}
 use Rattle.od_model.specs.Matching.Mentions.{same_mention}
@@ -11,6 +12,7 @@ use Rattle.od_model.specs.Matching.Scan.{scan_from, scan_of}
 use Rattle.od_model.specs.Rounds.Round.{round, rounds}
 use Rattle.od_model.specs.Rounds.Phases.{phase, greatest_first}
 use Rattle.od_model.specs.declared.token.Token.{Token}
+use Rattle.od_model.specs.declared.sentence.Sentence.{Sentence}
 use Rattle.od_model.specs.declared.doc.Doc.{Doc}
 use Rattle.od_model.specs.declared.mention.Mention.{Mention}
 use Rattle.od_model.specs.declared.history.Phase.{Phase}
@@ -32,6 +34,14 @@ use Rattle.od_model.specs.declared.rule.Body.TheVariants as body
 -- a token with its norm, lemma and tag
 abbrev word : List ℕ → List ℕ → List ℕ → List ℕ → Token
 word form norm lemma tag = record { word = form; norm = norm; lemma = Some lemma; upos = None; tag = Some tag; entity = None; chunk = None }
+
+-- a sentence without edges
+abbrev sentence : (tokens : List Token) → 0 < length tokens → length tokens ≤ 2000 → Sentence
+sentence tokens some few = record { tokens = tokens; edges = []; some = some; few = few; ends = All-nil _; distinct = refl }
+
+-- a document of one sentence
+abbrev document : List ℕ → (s : Sentence) → weight_of (s ∷ []) ≤ 100 → Doc
+document name s weight = record { name = name; size = 100; sentences = s ∷ []; some = lit< tt; small = lit≤ tt; weight = weight }
 
 abbrev is : Field → List ℕ → Surface
 is field text = surface.Token (constraint.Is field (Plain text))
@@ -61,14 +71,7 @@ phase_of rules limit lists = phase (greatest_first rules) limit lists
 
 -- the document of one word
 abbrev bark : Doc
-bark = record {
-  name = codes "d";
-  size = 24;
-  sentences = record { tokens = word (codes "bark") (codes "bark") (codes "bark") (codes "VBP") ∷ []; edges = []; some = lit< tt; few = lit≤ tt; ends = All-nil _; distinct = refl } ∷ [];
-  some = lit< tt;
-  small = lit≤ tt;
-  weight = lit≤ tt;
-}
+bark = document (codes "d") (sentence (word (codes "bark") (codes "bark") (codes "bark") (codes "VBP") ∷ []) (lit< tt) (lit≤ tt)) (lit≤ tt)
 
 abbrev late : List Rule
 late = rule (codes "late") (codes "Bark") (from 2) (is Lemma (codes "bark")) ∷ []
@@ -100,14 +103,7 @@ abbrev x : Token
 x = word (codes "x") (codes "x") (codes "x") (codes "X")
 
 abbrev row : Doc
-row = record {
-  name = codes "d";
-  size = 200;
-  sentences = record { tokens = word (codes "a") (codes "a") (codes "a") (codes "A") ∷ x ∷ x ∷ x ∷ x ∷ x ∷ []; edges = []; some = lit< tt; few = lit≤ tt; ends = All-nil _; distinct = refl } ∷ [];
-  some = lit< tt;
-  small = lit≤ tt;
-  weight = lit≤ tt;
-}
+row = document (codes "d") (sentence (word (codes "a") (codes "a") (codes "a") (codes "A") ∷ x ∷ x ∷ x ∷ x ∷ x ∷ []) (lit< tt) (lit≤ tt)) (lit≤ tt)
 
 -- `@LABEL [tag=X]`
 abbrev one_x_more : List ℕ → Surface
@@ -135,41 +131,14 @@ ends_at_the_limit = refl
 
 -- `The dog barks`
 abbrev dog : Doc
-dog = record {
-  name = codes "d1";
-  size = 100;
-  sentences = record {
-    tokens =
-        word (codes "The") (codes "the") (codes "the") (codes "DT") ∷ word (codes "dog") (codes "dog") (codes "dog") (codes "NN") ∷
-        word (codes "barks") (codes "barks") (codes "bark") (codes "VBZ") ∷ [];
-    edges = [];
-    some = lit< tt;
-    few = lit≤ tt;
-    ends = All-nil _;
-    distinct = refl;
-  } ∷ [];
-  some = lit< tt;
-  small = lit≤ tt;
-  weight = lit≤ tt;
-}
+dog = document (codes "d1") (sentence (
+    word (codes "The") (codes "the") (codes "the") (codes "DT") ∷ word (codes "dog") (codes "dog") (codes "dog") (codes "NN") ∷
+    word (codes "barks") (codes "barks") (codes "bark") (codes "VBZ") ∷ []) (lit< tt) (lit≤ tt)) (lit≤ tt)
 
 -- `Zebras bark`
 abbrev zebras : Doc
-zebras = record {
-  name = codes "d2";
-  size = 100;
-  sentences = record {
-    tokens = word (codes "Zebras") (codes "zebras") (codes "zebra") (codes "NNS") ∷ word (codes "bark") (codes "bark") (codes "bark") (codes "VBP") ∷ [];
-    edges = [];
-    some = lit< tt;
-    few = lit≤ tt;
-    ends = All-nil _;
-    distinct = refl;
-  } ∷ [];
-  some = lit< tt;
-  small = lit≤ tt;
-  weight = lit≤ tt;
-}
+zebras = document (codes "d2") (sentence (
+    word (codes "Zebras") (codes "zebras") (codes "zebra") (codes "NNS") ∷ word (codes "bark") (codes "bark") (codes "bark") (codes "VBP") ∷ []) (lit< tt) (lit≤ tt)) (lit≤ tt)
 
 -- `[!word=dog]`, `[tag=DT]? [lemma=bark]`, `[norm=zebras]`
 abbrev three_rules : List Rule
