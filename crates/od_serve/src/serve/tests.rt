@@ -43,12 +43,18 @@ struct Given {
     fails: bool,
 }
 
+fn words_of(alloc: Global, words: &[&'static str]) -> Result<Vec<String>, AllocError> {
+    let mut all = Vec::new(alloc);
+    for word in words {
+        all.push(String::from_str(alloc, word)?)?;
+    }
+    Ok(all)
+}
+
 /// A run of `serve` with ample room.
 fn serving(alloc: Global, input: &'static [u8]) -> Result<Given, AllocError> {
-    let mut words = Vec::new(alloc);
-    words.push(String::from_str(alloc, "serve")?)?;
     Ok(Given {
-        words,
+        words: words_of(alloc, &["serve"])?,
         input,
         room: 100000,
         diag_room: 1000,
@@ -81,11 +87,14 @@ fn the_first_example_writes_its_six_lines(rt: HostRuntime) {
 #[test]
 fn other_words_are_refused(rt: HostRuntime) {
     let mut given = serving(rt.alloc(), EXAMPLE).expect(&rt, "memory");
-    given.words = Vec::new(rt.alloc());
-    let ended = run(rt.alloc(), &given).expect(&rt, "memory");
-    assert_eq!(rt; ended.status, 2);
-    assert!(rt; ended.sink.written().is_empty());
-    assert!(rt; ended.diag.written() == USAGE);
+    let lists: [&[&'static str]; 5] = [&[], &[""], &["Serve"], &["serve "], &["serve", "serve"]];
+    for words in &lists {
+        given.words = words_of(rt.alloc(), words).expect(&rt, "memory");
+        let ended = run(rt.alloc(), &given).expect(&rt, "memory");
+        assert_eq!(rt; ended.status, 2, "to {words:?}");
+        assert!(rt; ended.sink.written().is_empty());
+        assert!(rt; ended.diag.written() == USAGE);
+    }
 }
 
 #[test]
