@@ -11,6 +11,7 @@ pub mod Words
 pub mod Distinct
 pub mod Examples
 pub mod PathExamples
+pub mod TextExamples
 pub mod Tests
 pub mod Spread
 pub mod Reaches
