@@ -4,11 +4,11 @@ use Rattle.std.specs.Prelude.{vec_len, nat_lt, if◌then◌else◌}
 use Rattle.std.specs.Option.{option_map}
 use Rattle.std.specs.List.{find}
 use Rattle.std.proofs.lemmas.List.{map-append, length-map}
-use Rattle.od_model.specs.declared.conllu.ConlluFault.{ConlluFault}
-use Rattle.od_model.specs.declared.conllu.ConlluKind.TheVariants.{HeadRange}
-use Rattle.od_model.specs.Document.Words.{WordLine, token_of, edges_from, edge_of, head_number}
-use Rattle.od_model.specs.Document.Faults.{heads_fault}
-use Rattle.od_model.proofs.Document.Edges.{edges_from-snoc}
+use Rattle.od_document.specs.declared.conllu.ConlluFault.{ConlluFault}
+use Rattle.od_document.specs.declared.conllu.ConlluKind.TheVariants.{HeadRange}
+use Rattle.od_document.specs.Words.{WordLine, token_of, edges_from, edge_of, head_number}
+use Rattle.od_document.specs.Faults.{heads_fault}
+use Rattle.od_document.proofs.Edges.{edges_from-snoc}
 use Rattle.od_conllu.specs.declared.draft.Draft.{Draft}
 use Rattle.od_conllu.specs.declared.draft.LineHead.{LineHead}
 use Rattle.od_conllu.specs.Drafts.{IsDraftOf, line_head}

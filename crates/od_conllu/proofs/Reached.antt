@@ -4,13 +4,13 @@ use Rattle.std.specs.List.{slice_split}
 use Rattle.std.proofs.lemmas.List.{map-append, append-nil}
 use Rattle.std.proofs.lemmas.List.Elements.{All-push, All-nil}
 use Rattle.std.proofs.lemmas.List.Splits.{slice_split_at, slice_split_none}
-use Rattle.od_model.specs.declared.sentence.Sentence.{Sentence}
-use Rattle.od_model.specs.declared.conllu.ConlluFault.{ConlluFault}
-use Rattle.od_model.specs.Document.Lines.{Line, is_blank}
-use Rattle.od_model.specs.Document.Words.{WordLine, word_lines_of, content_of}
-use Rattle.od_model.specs.Document.Faults.{lines_fault, block_fault, blocks_fault, sentences_in, heads_fault, content_fault, fault_at}
-use Rattle.od_model.specs.Document.Reading.{shown, parts_of}
-use Rattle.od_model.proofs.Document.Faults.{blocks_fault-append, sentences_in-append, lines_fault-snoc, fault_in_block, words_of-append, option_or-none}
+use Rattle.od_document.specs.declared.sentence.Sentence.{Sentence}
+use Rattle.od_document.specs.declared.conllu.ConlluFault.{ConlluFault}
+use Rattle.od_document.specs.Lines.{Line, is_blank}
+use Rattle.od_document.specs.Words.{WordLine, word_lines_of, content_of}
+use Rattle.od_document.specs.Faults.{lines_fault, block_fault, blocks_fault, sentences_in, heads_fault, content_fault, fault_at}
+use Rattle.od_document.specs.Reading.{shown, parts_of}
+use Rattle.od_document.proofs.Faults.{blocks_fault-append, sentences_in-append, lines_fault-snoc, fault_in_block, words_of-append, option_or-none}
 use Rattle.od_conllu.specs.declared.draft.Draft.{Draft}
 use Rattle.od_conllu.specs.declared.fault.ReadDocFault.{ReadDocFault}
 use Rattle.od_conllu.specs.declared.fault.ReadDocFault.TheVariants.{Bad, NoMemory}

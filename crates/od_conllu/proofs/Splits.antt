@@ -7,7 +7,8 @@ use Rattle.std.proofs.lemmas.List.Sums.{fails_before_first}
 use Rattle.std.proofs.lemmas.List.Splits.{slice_split_none, slice_split_first, length-slice_split}
 use Rattle.std.specs.Borrow.{Bor}
 use Rattle.std.specs.Option.{option_map}
-use Rattle.od_model.specs.Document.Columns.{split_once, row_of}
+use Rattle.od_document.specs.Columns.{row_of}
+use Rattle.od_text.specs.Cuts.{split_once}
 use Rattle.od_conllu.specs.Seen.{both, Splits}
 
 none-false : {A : Type 0} (t : Bool) (p : A) → (if t then Some p else None) ≡ None → t ≡ false

@@ -1,9 +1,9 @@
 -- What an outcome says of what was reached, from what it says of what is reached then.
 use Rattle.std.proofs.Common.{◌≡◌, List, Ok, Err, Some, Vec, Global}
 use Rattle.std.specs.Prelude.{Result, IfOk, IfErr}
-use Rattle.od_model.specs.declared.sentence.Sentence.{Sentence}
-use Rattle.od_model.specs.Document.Lines.{Line}
-use Rattle.od_model.specs.Document.Faults.{blocks_fault}
+use Rattle.od_document.specs.declared.sentence.Sentence.{Sentence}
+use Rattle.od_document.specs.Lines.{Line}
+use Rattle.od_document.specs.Faults.{blocks_fault}
 use Rattle.od_conllu.specs.declared.fault.ReadDocFault.{ReadDocFault}
 use Rattle.od_conllu.specs.declared.fault.ReadDocFault.TheVariants.{Bad, NoMemory}
 use Rattle.od_conllu.specs.Drafts.{IfBad}

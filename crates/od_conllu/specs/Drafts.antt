@@ -1,10 +1,10 @@
 -- What has been read of a sentence, and what its end gives.
 use Rattle.std.specs.Prelude.{◌≡◌, ℕ, ◌<◌, ◌≤◌, List, [], length, map, Option, None, Some}
-use Rattle.od_model.specs.declared.conllu.ConlluFault.{ConlluFault}
-use Rattle.od_model.specs.declared.sentence.Sentence.{Sentence}
-use Rattle.od_model.specs.Document.Words as words
-use Rattle.od_model.specs.Document.Words.{WordLine, head_number, token_of, edges_from}
-use Rattle.od_model.specs.Document.Reading.{shown, parts_of}
+use Rattle.od_document.specs.declared.conllu.ConlluFault.{ConlluFault}
+use Rattle.od_document.specs.declared.sentence.Sentence.{Sentence}
+use Rattle.od_document.specs.Words as words
+use Rattle.od_document.specs.Words.{WordLine, head_number, token_of, edges_from}
+use Rattle.od_document.specs.Reading.{shown, parts_of}
 use Rattle.od_conllu.specs.declared.fault.ReadDocFault.{ReadDocFault}
 use Rattle.od_conllu.specs.declared.fault.ReadDocFault.TheVariants.{Bad, NoMemory}
 use Rattle.od_conllu.specs.declared.row.Row.{Row}

@@ -1,11 +1,11 @@
 -- How far the lines of a text have been read.
 use Rattle.std.specs.Prelude.{◌≡◌, ℕ, ◌<◌, ◌≤◌, ◌^◌, List, [], ◌∷◌, ◌++◌, length, map, false, nat_lt, None}
 use Rattle.std.specs.List.{All, slice_split, filter}
-use Rattle.od_model.specs.declared.sentence.Sentence.{Sentence}
-use Rattle.od_model.specs.Document.Lines.{Line, is_blank, blocks_of, without_mark}
-use Rattle.od_model.specs.Document.Words.{WordLine, word_lines_of}
-use Rattle.od_model.specs.Document.Faults.{lines_fault, blocks_fault, sentences_in, doc_fault}
-use Rattle.od_model.specs.Document.Reading.{shown, parts_of}
+use Rattle.od_document.specs.declared.sentence.Sentence.{Sentence}
+use Rattle.od_document.specs.Lines.{Line, is_blank, blocks_of, without_mark}
+use Rattle.od_document.specs.Words.{WordLine, word_lines_of}
+use Rattle.od_document.specs.Faults.{lines_fault, blocks_fault, sentences_in, doc_fault}
+use Rattle.od_document.specs.Reading.{shown, parts_of}
 use Rattle.od_conllu.specs.declared.draft.Draft.{Draft}
 use Rattle.od_conllu.specs.Drafts.{IsDraftOf}
 

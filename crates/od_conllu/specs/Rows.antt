@@ -1,5 +1,5 @@
 -- What the columns of a line show.
-use Rattle.od_model.specs.Document.Columns as columns
+use Rattle.od_document.specs.Columns as columns
 use Rattle.od_conllu.specs.declared.row.Row.{Row}
 
 abbrev pub seen : Row → columns.Row

@@ -1,11 +1,13 @@
 // What the text of a column says.
 ghost use Rattle.std.specs.Prelude.{◌≡◌, ◌<◌, IfOk, IfSome};
 ghost use Rattle.std.specs.Option.{option_map, is_some};
-ghost use Rattle.od_model.specs.Document.Columns.{split_once, number_of, digits_after, word_id, is_range_or_empty_node, is_range, is_empty_node, head_of, column_value, edge_label, fold_text};
+ghost use Rattle.od_document.specs.Columns.{number_of, digits_after, word_id, is_range_or_empty_node, is_range, is_empty_node, head_of, column_value, edge_label};
+ghost use Rattle.od_text.specs.Cuts.{split_once};
+ghost use Rattle.od_text.specs.Folding.{fold_text};
 ghost use Rattle.od_conllu.specs.Seen.{both};
 
 use caseless::default_case_fold_str;
-use od_model::text::{NoMemory, Text};
+use od_text::text::{NoMemory, Text};
 use std::alloc::Global;
 
 /// The text before the first `c` and the text after it, where there is one.

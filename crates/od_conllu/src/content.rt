@@ -1,13 +1,13 @@
 // What a line holds.
 ghost use Rattle.std.specs.Prelude.{◌≡◌, ◌<◌, ◌≤◌, length};
-ghost use Rattle.od_model.specs.Document.Words.{content_of};
-ghost use Rattle.od_model.specs.Document.Faults.{word_fault};
+ghost use Rattle.od_document.specs.Words.{content_of};
+ghost use Rattle.od_document.specs.Faults.{word_fault};
 ghost use Rattle.od_conllu.specs.Rows.{seen};
 ghost use Rattle.od_conllu.specs.Drafts.{content_seen};
 
 use crate::column::{head, is_range_or_empty_node, word_id};
 use crate::row::{Row, read_row};
-use od_model::conllu::ConlluKind;
+use od_document::conllu::ConlluKind;
 
 /// The most words of a sentence.
 const MOST_WORDS: u32 = 2000;

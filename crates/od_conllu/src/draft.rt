@@ -1,20 +1,20 @@
 // The sentence whose lines are being read.
 ghost use Rattle.std.specs.Prelude.{◌≡◌, ◌<◌, ◌++◌, [], ◌∷◌, Some, None, IfOk, IfErr, OnOk, List as Seq, length, nat_lt};
 ghost use Rattle.std.specs.List.{find};
-ghost use Rattle.od_model.specs.Document.Columns.{misc_value};
-ghost use Rattle.od_model.specs.Document.Words.{WordLine, word_lines_of, content_of, token_of, edge_of};
-ghost use Rattle.od_model.specs.Document.Faults.{content_fault, fault_at, heads_fault};
+ghost use Rattle.od_document.specs.Columns.{misc_value};
+ghost use Rattle.od_document.specs.Words.{WordLine, word_lines_of, content_of, token_of, edge_of};
+ghost use Rattle.od_document.specs.Faults.{content_fault, fault_at, heads_fault};
 ghost use Rattle.od_conllu.specs.Drafts.{word_seen, IsDraftOf, Ends, IfBad};
 
 use crate::column::{fold, head, label, value};
 use crate::content::{Content, line_content, word_fault};
 use crate::fault::ReadDocFault;
 use crate::row::{Row, misc_item};
-use od_model::conllu::{ConlluFault, ConlluKind};
-use od_model::list::List;
-use od_model::sentence::Sentence;
-use od_model::text::{NoMemory, Text};
-use od_model::token::{Edge, Token};
+use od_document::conllu::{ConlluFault, ConlluKind};
+use od_document::sentence::Sentence;
+use od_document::token::{Edge, Token};
+use od_text::list::List;
+use od_text::text::{NoMemory, Text};
 use std::alloc::Global;
 
 /// The number of a word line, from 1, and the number that its HEAD names, 0 for none.

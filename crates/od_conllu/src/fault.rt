@@ -1,7 +1,7 @@
 ghost use Rattle.std.specs.Prelude.{◌≡◌};
 
-use od_model::conllu::ConlluFault;
-use od_model::text::NoMemory;
+use od_document::conllu::ConlluFault;
+use od_text::text::NoMemory;
 
 /// Why a document was not read.
 #[derive(Clone, Copy, Debug, PartialEq, Eq)]

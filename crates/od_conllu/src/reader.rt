@@ -2,11 +2,11 @@
 ghost use Rattle.std.specs.Prelude.{◌≡◌, ◌<◌, ◌≤◌, ◌+◌, ◌^◌, ◌++◌, [], ◌∷◌, Some, None, MatchResult, IfOk, IfErr, OnOk, List as Seq, length, map};
 ghost use Rattle.std.specs.Str.Lossy.{utf8_valid_len};
 ghost use Rattle.std.specs.Str.Lines.{strip_carriage_return, lines_of_parts};
-ghost use Rattle.od_model.specs.Document.Lines.{Line, without_mark, blocks_of, numbered};
-ghost use Rattle.od_model.specs.Document.Words.{WordLine};
-ghost use Rattle.od_model.specs.Document.Faults.{bad_byte_line, heads_fault, blocks_fault, doc_fault};
-ghost use Rattle.od_model.specs.Document.Building.{document_of};
-ghost use Rattle.od_model.specs.Document.Reading.{shown, parts_of, Reads};
+ghost use Rattle.od_document.specs.Lines.{Line, without_mark, blocks_of, numbered};
+ghost use Rattle.od_document.specs.Words.{WordLine};
+ghost use Rattle.od_document.specs.Faults.{bad_byte_line, heads_fault, blocks_fault, doc_fault};
+ghost use Rattle.od_document.specs.Building.{document_of};
+ghost use Rattle.od_document.specs.Reading.{shown, parts_of, Reads};
 ghost use Rattle.od_conllu.specs.Drafts.{IsDraftOf, IfBad};
 ghost use Rattle.od_conllu.specs.Reached.{sentence_in, Reaches, AreRead, AreSentences};
 
@@ -14,11 +14,11 @@ use crate::draft::{Draft, put};
 use crate::fault::ReadDocFault;
 use crate::row::next_part;
 use bstr::ByteSlice;
-use od_model::conllu::{ConlluFault, ConlluKind};
-use od_model::doc::Doc;
-use od_model::list::List;
-use od_model::sentence::Sentence;
-use od_model::text::{NoMemory, Text};
+use od_document::conllu::{ConlluFault, ConlluKind};
+use od_document::doc::Doc;
+use od_document::sentence::Sentence;
+use od_text::list::List;
+use od_text::text::{NoMemory, Text};
 use std::alloc::Global;
 
 /// The most bytes of a document, 1 MiB.

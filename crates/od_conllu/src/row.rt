@@ -1,7 +1,8 @@
 // The columns of a line.
 ghost use Rattle.std.specs.Prelude.{◌≡◌, ◌<◌};
 ghost use Rattle.std.specs.Option.{option_map};
-ghost use Rattle.od_model.specs.Document.Columns.{split_once, row_of, columns_of, value_at_key, misc_value};
+ghost use Rattle.od_document.specs.Columns.{row_of, columns_of, value_at_key, misc_value};
+ghost use Rattle.od_text.specs.Cuts.{split_once};
 ghost use Rattle.od_conllu.specs.Seen.{now, Splits};
 ghost use Rattle.od_conllu.specs.Rows.{seen};
 

@@ -1,5 +1,5 @@
 use crate::{ReadDocFault, read_doc};
-use od_model::conllu::{ConlluFault, ConlluKind};
+use od_document::conllu::{ConlluFault, ConlluKind};
 use std::alloc::Global;
 use std::test::Fail;
 

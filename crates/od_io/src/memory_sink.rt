@@ -5,7 +5,7 @@ ghost use Rattle.od_io.specs.Streams.Count.{Rose, count_up};
 
 use super::count::FaultCount;
 use super::streams::{Failed, Sink};
-use od_model::text::NoMemory;
+use od_text::text::NoMemory;
 use std::alloc::Global;
 use std::marker::Model;
 

@@ -6,7 +6,7 @@ ghost use Rattle.od_io.specs.Streams.Count.{Rose, count_up};
 
 use super::count::FaultCount;
 use super::streams::{Failed, Source};
-use od_model::text::Bytes;
+use od_text::text::Bytes;
 use std::marker::Model;
 
 /// A source over bytes in memory, of which chosen reads fail.

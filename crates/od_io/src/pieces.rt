@@ -1,7 +1,7 @@
 //! Bytes in the pieces in which they came.
 ghost use Rattle.std.specs.Prelude.{◌≡◌, ◌+◌, ◌^◌, ◌<◌, [], ◌++◌, IfOk, OnOk, OnErr, length};
 
-use od_model::text::{Bytes, NoMemory};
+use od_text::text::{Bytes, NoMemory};
 use std::alloc::Global;
 use std::marker::Model;
 

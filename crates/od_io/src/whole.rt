@@ -7,7 +7,7 @@ ghost use Rattle.od_io.specs.Streams.Writing.{AppendsProperPrefix};
 
 use super::pieces::Pieces;
 use super::streams::{Failed, Sink, Source};
-use od_model::text::{Bytes, NoMemory};
+use od_text::text::{Bytes, NoMemory};
 use std::alloc::Global;
 
 /// Why the bytes of a source were not read to its end.

@@ -1,21 +1,21 @@
 -- What the parser answers is the constraint that stands there, or the first fault.
 use Rattle.std.proofs.Common.{◌≡◌, ℕ, ◌+◌, ◌-◌, ◌<◌, ◌≤◌, List, [], ◌∷◌, ◌++◌, length, drop, length-drop, Option, Some, None, Result, Ok, Err, refl, sym, ◌∙◌, ap, subst, append-nil, arith, IfOk}
-use Rattle.od_model.specs.declared.pattern.Constraint.{Constraint}
-use Rattle.od_model.specs.declared.pattern_fault.PatternKind.{PatternKind}
-use Rattle.od_model.specs.declared.pattern_fault.PatternKind.TheVariants as kind
-use Rattle.od_model.specs.declared.pattern_fault.PatternFault.{PatternFault}
-use Rattle.od_model.specs.declared.pattern_fault.PatternFault.TheVariants as fault
-use Rattle.od_model.specs.declared.lexeme.Lexeme.{Lexeme}
-use Rattle.od_model.specs.declared.lexeme.LexKind.{LexKind}
-use Rattle.od_model.specs.Pattern.Grammar.{IsConstraint}
-use Rattle.od_model.specs.Pattern.Depth.{depth_behind, depth_after, broken_rule, BreaksRule}
-use Rattle.od_model.specs.Pattern.FirstFault.{kinds, Keeps, IsEnded, IsRead, IsFault, IfBad, OneAnswer, Gives, Refuses}
-use Rattle.od_model.specs.Pattern.Machine.{◌>>=◌, stopped, checked, either_way}
-use Rattle.od_model.specs.Pattern.Machine.{run as run_behind}
-use Rattle.od_model.proofs.Reading.Machine as reading
+use Rattle.od_pattern.specs.declared.pattern.Constraint.{Constraint}
+use Rattle.od_language.specs.declared.pattern_fault.PatternKind.{PatternKind}
+use Rattle.od_language.specs.declared.pattern_fault.PatternKind.TheVariants as kind
+use Rattle.od_language.specs.declared.pattern_fault.PatternFault.{PatternFault}
+use Rattle.od_language.specs.declared.pattern_fault.PatternFault.TheVariants as fault
+use Rattle.od_language.specs.declared.lexeme.Lexeme.{Lexeme}
+use Rattle.od_language.specs.declared.lexeme.LexKind.{LexKind}
+use Rattle.od_language.specs.Grammar.{IsConstraint}
+use Rattle.od_language.specs.Depth.{depth_behind, depth_after, broken_rule, BreaksRule}
+use Rattle.od_language.specs.FirstFault.{kinds, Keeps, IsEnded, IsRead, IsFault, IfBad, OneAnswer, Gives, Refuses}
+use Rattle.od_language.specs.Machine.{◌>>=◌, stopped, checked, either_way}
+use Rattle.od_language.specs.Machine.{run as run_behind}
+use Rattle.od_language.proofs.Machine as reading
 use Rattle.od_lex.specs.Machine.{Reading, Leads, State, start, done, step, ended, run, marked, unbroken}
-use Rattle.od_model.specs.Pattern.Written.{written, IsWritable}
-use Rattle.od_model.proofs.Reading.Written.{written_back}
+use Rattle.od_language.specs.Written.{written, IsWritable}
+use Rattle.od_language.proofs.Written.{written_back}
 use Rattle.od_lex.proofs.Complete.{constraint_goes}
 use Rattle.od_lex.proofs.Closing.{reader, rule_at}
 

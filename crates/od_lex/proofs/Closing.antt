@@ -1,19 +1,19 @@
 -- Each state can still be brought to the end; what does not fit a state begins no word.
 use Rattle.std.proofs.Common.{◌≡◌, ℕ, List, [], ◌∷◌, ◌++◌, Option, Some, None, Result, Ok, Err, refl, sym, ◌∙◌, ap, codes, ◌⊎◌, inl, inr, subst}
-use Rattle.od_model.specs.declared.pattern.Field.{Field}
-use Rattle.od_model.specs.declared.pattern_fault.PatternKind.{PatternKind}
-use Rattle.od_model.specs.declared.pattern_fault.PatternKind.TheVariants as kind
-use Rattle.od_model.specs.declared.lexeme.LexKind.{LexKind}
-use Rattle.od_model.specs.declared.lexeme.LexKind.TheVariants.{Word, Quoted, Regex, SquareOpen, SquareClose, RoundOpen, RoundClose, And, Or, Not, Equal, End}
-use Rattle.od_model.specs.declared.pattern.Constraint.{Constraint}
-use Rattle.od_model.specs.declared.pattern.Constraint.TheVariants as constraint
-use Rattle.od_model.specs.Pattern.Grammar.{IsConstraint}
-use Rattle.od_model.specs.Pattern.Fields.{field_named}
-use Rattle.od_model.specs.Pattern.FirstFault.{Begins}
-use Rattle.od_model.proofs.Reading.Machine.{steps_append}
+use Rattle.od_pattern.specs.declared.pattern.Field.{Field}
+use Rattle.od_language.specs.declared.pattern_fault.PatternKind.{PatternKind}
+use Rattle.od_language.specs.declared.pattern_fault.PatternKind.TheVariants as kind
+use Rattle.od_language.specs.declared.lexeme.LexKind.{LexKind}
+use Rattle.od_language.specs.declared.lexeme.LexKind.TheVariants.{Word, Quoted, Regex, SquareOpen, SquareClose, RoundOpen, RoundClose, And, Or, Not, Equal, End}
+use Rattle.od_pattern.specs.declared.pattern.Constraint.{Constraint}
+use Rattle.od_pattern.specs.declared.pattern.Constraint.TheVariants as constraint
+use Rattle.od_language.specs.Grammar.{IsConstraint}
+use Rattle.od_language.specs.Fields.{field_named}
+use Rattle.od_language.specs.FirstFault.{Begins}
+use Rattle.od_language.proofs.Machine.{steps_append}
 use Rattle.od_lex.specs.Machine.{ended, Open, square, round, State, start, operand, named, equals, after, done, negated, both, either, step, named_by}
-use Rattle.od_model.specs.Pattern.Machine.{steps, ◌>>=◌, IsReader, Refusal}
-use Rattle.od_model.specs.Pattern.Depth.{broken_rule, depth_after, BreaksRule}
+use Rattle.od_language.specs.Machine.{steps, ◌>>=◌, IsReader, Refusal}
+use Rattle.od_language.specs.Depth.{broken_rule, depth_after, BreaksRule}
 use Rattle.od_lex.specs.Machine as machine
 use Rattle.od_lex.proofs.Complete.{constraint_goes}
 use Rattle.od_lex.proofs.Sound.{read_is_word}

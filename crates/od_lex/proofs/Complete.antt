@@ -1,15 +1,15 @@
 -- A word of the grammar takes the machine to its end.
 use Rattle.std.proofs.Common.{◌≡◌, ℕ, suc, List, ◌∷◌, Option, Some, None, Ok, refl, ◌∙◌, ap}
-use Rattle.od_model.specs.declared.pattern.Field.{Field}
-use Rattle.od_model.specs.declared.pattern.Value.{Value}
-use Rattle.od_model.specs.declared.lexeme.LexKind.{LexKind}
-use Rattle.od_model.specs.declared.lexeme.LexKind.TheVariants.{SquareClose, RoundClose, And, Or, Equal}
-use Rattle.od_model.specs.declared.pattern.Constraint.{Constraint}
-use Rattle.od_model.specs.declared.pattern.Constraint.TheVariants as constraint
-use Rattle.od_model.specs.Pattern.Grammar.{Unary, negation, group, test, Ands, one, more, Ors, first, next, IsConstraint, empty, some}
-use Rattle.od_model.specs.Pattern.Fields.{IsValue, word, quoted, regex}
+use Rattle.od_pattern.specs.declared.pattern.Field.{Field}
+use Rattle.od_pattern.specs.declared.pattern.Value.{Value}
+use Rattle.od_language.specs.declared.lexeme.LexKind.{LexKind}
+use Rattle.od_language.specs.declared.lexeme.LexKind.TheVariants.{SquareClose, RoundClose, And, Or, Equal}
+use Rattle.od_pattern.specs.declared.pattern.Constraint.{Constraint}
+use Rattle.od_pattern.specs.declared.pattern.Constraint.TheVariants as constraint
+use Rattle.od_language.specs.Grammar.{Unary, negation, group, test, Ands, one, more, Ors, first, next, IsConstraint, empty, some}
+use Rattle.od_language.specs.Fields.{IsValue, word, quoted, regex}
 use Rattle.od_lex.specs.Machine.{Open, square, round, State, start, operand, named, equals, after, done, negated, both, either, step, named_by}
-use Rattle.od_model.specs.Pattern.Machine.{steps, ◌>>=◌}
+use Rattle.od_language.specs.Machine.{steps, ◌>>=◌}
 use Rattle.od_lex.specs.Machine as machine
 
 -- behind an `or` that is whole, some part of it stands apart

@@ -2,12 +2,12 @@
 use Rattle.std.proofs.Common.{◌≡◌, ℕ, ◌+◌, ◌≤◌, false, List, [], ◌∷◌, ◌++◌, length, Option, Some, Result, Ok, Err, refl, sym, ◌∙◌, ap, subst, inl, inr, arith, append_assoc, length-append, add_assoc}
 use Rattle.std.proofs.lemmas.List.{append_cancel_right}
 use Rattle.std.specs.Char.{len_utf8, is_whitespace}
-use Rattle.od_model.specs.declared.lexeme.Miss.{Miss}
-use Rattle.od_model.specs.declared.lexeme.Lexeme.{Lexeme}
-use Rattle.od_model.specs.declared.lexeme.LexKind.{LexKind}
-use Rattle.od_model.specs.declared.lexeme.LexKind.TheVariants.{End}
-use Rattle.od_model.specs.Pattern.Spelling.{Spells}
-use Rattle.od_model.specs.Pattern.Lexing.{size_of, SpellsNothing, IsLongest, miss_at, Lexes, end, stuck, white, next}
+use Rattle.od_language.specs.declared.lexeme.Miss.{Miss}
+use Rattle.od_language.specs.declared.lexeme.Lexeme.{Lexeme}
+use Rattle.od_language.specs.declared.lexeme.LexKind.{LexKind}
+use Rattle.od_language.specs.declared.lexeme.LexKind.TheVariants.{End}
+use Rattle.od_language.specs.Spelling.{Spells}
+use Rattle.od_language.specs.Lexing.{size_of, SpellsNothing, IsLongest, miss_at, Lexes, end, stuck, white, next}
 use Rattle.od_lex.specs.Forms.{form}
 use Rattle.od_lex.specs.Reading.{Formed}
 use Rattle.od_lex.specs.Reading as by

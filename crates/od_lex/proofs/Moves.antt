@@ -1,17 +1,17 @@
 -- Steps that the parser takes.
 use Rattle.std.proofs.Common.{◌≡◌, ℕ, zero, suc, ◌+◌, ◌-◌, ◌<◌, List, [], ◌∷◌, length, take, get_or, add-one, Option, Some, None, Result, Ok, Err, refl, sym, ◌∙◌, ap, arith}
 use Rattle.std.proofs.Common.{lt-ltb, Bool, if◌then◌else◌}
-use Rattle.od_model.specs.declared.lexeme.Lexeme.{Lexeme}
-use Rattle.od_model.specs.declared.lexeme.LexKind.{LexKind}
-use Rattle.od_model.specs.declared.lexeme.LexKind.TheVariants.{RoundOpen, SquareOpen, SquareClose}
-use Rattle.od_model.specs.declared.pattern_fault.PatternKind.TheVariants as kind
-use Rattle.od_model.specs.declared.pattern.Constraint.{Constraint}
-use Rattle.od_model.specs.declared.pattern.Constraint.TheVariants as constraint
-use Rattle.od_model.specs.Pattern.Depth.{depth_behind, broken_rule, too_deep, depth_after, depth_before}
-use Rattle.od_model.specs.Pattern.FirstFault.{kinds}
-use Rattle.od_model.specs.Pattern.Machine.{◌>>=◌}
-use Rattle.od_model.specs.declared.pattern_fault.PatternFault.{PatternFault}
-use Rattle.od_model.specs.declared.pattern_fault.PatternFault.TheVariants as fault
+use Rattle.od_language.specs.declared.lexeme.Lexeme.{Lexeme}
+use Rattle.od_language.specs.declared.lexeme.LexKind.{LexKind}
+use Rattle.od_language.specs.declared.lexeme.LexKind.TheVariants.{RoundOpen, SquareOpen, SquareClose}
+use Rattle.od_language.specs.declared.pattern_fault.PatternKind.TheVariants as kind
+use Rattle.od_pattern.specs.declared.pattern.Constraint.{Constraint}
+use Rattle.od_pattern.specs.declared.pattern.Constraint.TheVariants as constraint
+use Rattle.od_language.specs.Depth.{depth_behind, broken_rule, too_deep, depth_after, depth_before}
+use Rattle.od_language.specs.FirstFault.{kinds}
+use Rattle.od_language.specs.Machine.{◌>>=◌}
+use Rattle.od_language.specs.declared.pattern_fault.PatternFault.{PatternFault}
+use Rattle.od_language.specs.declared.pattern_fault.PatternFault.TheVariants as fault
 use Rattle.od_lex.specs.Machine.{Leads, Reading, step_first, negated, both, Open, square, round, State, operand, after, start, run, marked, unbroken, step_operand, step_start}
 use Rattle.od_lex.specs.Machine as machine
 

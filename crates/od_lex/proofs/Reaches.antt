@@ -6,12 +6,12 @@ use Rattle.std.specs.List.{prefix_len, list_all}
 use Rattle.std.specs.Char.{encode_utf8, is_ascii_digit}
 use Rattle.std.specs.Int.{is_in_range}
 use Rattle.std.specs.Str.{encode_utf8_all}
-use Rattle.od_model.specs.declared.lexeme.Miss.{Miss}
-use Rattle.od_model.specs.declared.lexeme.Miss.TheVariants as miss
-use Rattle.od_model.specs.declared.lexeme.LexKind.{LexKind}
-use Rattle.od_model.specs.declared.lexeme.LexKind.TheVariants as lexeme
-use Rattle.od_model.specs.Pattern.Identifier.{begins_identifier, in_identifier, is_identifier}
-use Rattle.od_model.specs.Pattern.Spelling.{begins_word, in_word, pair, number, IsNumber, QuotedText, closed, escaped, plain, RegexText, ended, paired, kept, symbol_of, Spells, word, quoted, regex, name_open, exactly, between, at_least, at_most, symbol}
+use Rattle.od_language.specs.declared.lexeme.Miss.{Miss}
+use Rattle.od_language.specs.declared.lexeme.Miss.TheVariants as miss
+use Rattle.od_language.specs.declared.lexeme.LexKind.{LexKind}
+use Rattle.od_language.specs.declared.lexeme.LexKind.TheVariants as lexeme
+use Rattle.od_language.specs.Identifier.{begins_identifier, in_identifier, is_identifier}
+use Rattle.od_language.specs.Spelling.{begins_word, in_word, pair, number, IsNumber, QuotedText, closed, escaped, plain, RegexText, ended, paired, kept, symbol_of, Spells, word, quoted, regex, name_open, exactly, between, at_least, at_most, symbol}
 use Rattle.od_lex.specs.Forms as form
 use Rattle.od_lex.proofs.Spelled.{if_cases, both_true, TakenBy, looking}
 

@@ -1,14 +1,14 @@
 -- Each text has one reading, and it ends with `End`.
 use Rattle.std.proofs.Common.{◌≡◌, ℕ, zero, suc, ◌+◌, ◌≤◌, length, length-append, None, Bool, true, false, List, [], ◌∷◌, ◌++◌, Option, Some, Result, Ok, Err, refl, sym, ◌∙◌, ap, subst, arith}
 use Rattle.std.specs.Char.{len_utf8, is_whitespace}
-use Rattle.od_model.specs.declared.lexeme.Lexeme.{Lexeme}
-use Rattle.od_model.specs.declared.lexeme.LexKind.{LexKind}
-use Rattle.od_model.specs.declared.lexeme.LexKind.TheVariants as lexeme
-use Rattle.od_model.specs.declared.lexeme.Miss.{Miss}
-use Rattle.od_model.specs.Pattern.FirstFault.{IsEnded}
+use Rattle.od_language.specs.declared.lexeme.Lexeme.{Lexeme}
+use Rattle.od_language.specs.declared.lexeme.LexKind.{LexKind}
+use Rattle.od_language.specs.declared.lexeme.LexKind.TheVariants as lexeme
+use Rattle.od_language.specs.declared.lexeme.Miss.{Miss}
+use Rattle.od_language.specs.FirstFault.{IsEnded}
 use Rattle.od_lex.specs.Forms.{form}
-use Rattle.od_model.specs.Pattern.Lexing.{size_of as bytes}
-use Rattle.od_model.specs.Pattern.Lexing.{OneReading}
+use Rattle.od_language.specs.Lexing.{size_of as bytes}
+use Rattle.od_language.specs.Lexing.{OneReading}
 use Rattle.od_lex.proofs.Spelled.{FormIs, form_is}
 use Rattle.od_lex.proofs.Longest.{longest, by_forms}
 use Rattle.od_lex.specs.Reading.{Formed, end, stuck, white, next}

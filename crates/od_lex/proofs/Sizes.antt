@@ -4,12 +4,12 @@ use Rattle.std.proofs.lemmas.List.{drop-drop, take-append-drop}
 use Rattle.std.proofs.lemmas.Str.{length-encode, encodes-chars}
 use Rattle.std.specs.Char.{encode_utf8, len_utf8, is_whitespace}
 use Rattle.std.specs.Str.{encode_utf8_all, chars, IsUtf8}
-use Rattle.od_model.specs.declared.lexeme.Lexeme.{Lexeme}
-use Rattle.od_model.specs.declared.lexeme.LexKind.{LexKind}
-use Rattle.od_model.specs.declared.lexeme.LexKind.TheVariants as lexeme
-use Rattle.od_model.specs.declared.lexeme.Miss.{Miss}
+use Rattle.od_language.specs.declared.lexeme.Lexeme.{Lexeme}
+use Rattle.od_language.specs.declared.lexeme.LexKind.{LexKind}
+use Rattle.od_language.specs.declared.lexeme.LexKind.TheVariants as lexeme
+use Rattle.od_language.specs.declared.lexeme.Miss.{Miss}
 use Rattle.od_lex.specs.Forms.{form}
-use Rattle.od_model.specs.Pattern.Lexing.{size_of as bytes}
+use Rattle.od_language.specs.Lexing.{size_of as bytes}
 use Rattle.od_lex.specs.Reading.{Formed, end, stuck, white, next}
 
 bytes_next : (xs : List ℕ) (i c : ℕ) → i < length xs → c ≡ get_or xs i c → bytes (take (suc i) xs) ≡ bytes (take i xs) + len_utf8 c

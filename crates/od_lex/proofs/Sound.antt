@@ -1,18 +1,18 @@
 -- What takes the machine to its end is a word of the grammar.
 use Rattle.std.proofs.Common.{◌≡◌, ℕ, List, [], ◌∷◌, Option, Some, None, Result, Ok, Err, refl, sym, subst}
-use Rattle.od_model.specs.declared.pattern.Field.{Field}
-use Rattle.od_model.specs.declared.pattern.Value.{Value}
-use Rattle.od_model.specs.declared.pattern.Value.TheVariants.{Plain}
-use Rattle.od_model.specs.declared.pattern.Value.TheVariants as value
-use Rattle.od_model.specs.declared.pattern_fault.PatternKind.{PatternKind}
-use Rattle.od_model.specs.declared.lexeme.LexKind.{LexKind}
-use Rattle.od_model.specs.declared.lexeme.LexKind.TheVariants.{Word, Quoted, Regex, SquareOpen, SquareClose, RoundOpen, RoundClose, And, Or, Not, Equal}
-use Rattle.od_model.specs.declared.pattern.Constraint.{Constraint}
-use Rattle.od_model.specs.declared.pattern.Constraint.TheVariants as constraint
-use Rattle.od_model.specs.Pattern.Grammar.{Unary, negation, group, test, Ands, one, more, Ors, first, next, IsConstraint, empty, some}
-use Rattle.od_model.specs.Pattern.Fields.{compared_text, IsValue, word, quoted, regex, field_named}
+use Rattle.od_pattern.specs.declared.pattern.Field.{Field}
+use Rattle.od_pattern.specs.declared.pattern.Value.{Value}
+use Rattle.od_pattern.specs.declared.pattern.Value.TheVariants.{Plain}
+use Rattle.od_pattern.specs.declared.pattern.Value.TheVariants as value
+use Rattle.od_language.specs.declared.pattern_fault.PatternKind.{PatternKind}
+use Rattle.od_language.specs.declared.lexeme.LexKind.{LexKind}
+use Rattle.od_language.specs.declared.lexeme.LexKind.TheVariants.{Word, Quoted, Regex, SquareOpen, SquareClose, RoundOpen, RoundClose, And, Or, Not, Equal}
+use Rattle.od_pattern.specs.declared.pattern.Constraint.{Constraint}
+use Rattle.od_pattern.specs.declared.pattern.Constraint.TheVariants as constraint
+use Rattle.od_language.specs.Grammar.{Unary, negation, group, test, Ands, one, more, Ors, first, next, IsConstraint, empty, some}
+use Rattle.od_language.specs.Fields.{compared_text, IsValue, word, quoted, regex, field_named}
 use Rattle.od_lex.specs.Machine.{Open, square, round, State, start, operand, named, equals, after, done, negated, both, either, step, named_by}
-use Rattle.od_model.specs.Pattern.Machine.{steps, ◌>>=◌}
+use Rattle.od_language.specs.Machine.{steps, ◌>>=◌}
 use Rattle.od_lex.specs.Machine as machine
 
 -- the `or` that stands before m, in brackets that begin at g

@@ -4,13 +4,13 @@ use Rattle.std.proofs.lemmas.Bool.{eqb-true}
 use Rattle.std.proofs.lemmas.List.{take-append-drop}
 use Rattle.std.specs.List.{prefix_len, list_all}
 use Rattle.std.specs.Char.{encode_utf8, is_ascii_digit}
-use Rattle.od_model.specs.declared.lexeme.Miss.{Miss}
-use Rattle.od_model.specs.declared.lexeme.Miss.TheVariants as miss
-use Rattle.od_model.specs.declared.lexeme.LexKind.{LexKind}
-use Rattle.od_model.specs.declared.lexeme.LexKind.TheVariants as lexeme
-use Rattle.od_model.specs.Pattern.Identifier.{in_identifier, is_identifier}
-use Rattle.od_model.specs.Pattern.Spelling.{begins_word, in_word, is_quote, pair, number, IsNumber, QuotedText, closed, escaped, plain, RegexText, ended, paired, kept, symbol_of, Spells, word, quoted, regex, name_open, exactly, between, at_least, at_most, symbol}
-use Rattle.od_model.specs.Pattern.Lexing.{miss_at}
+use Rattle.od_language.specs.declared.lexeme.Miss.{Miss}
+use Rattle.od_language.specs.declared.lexeme.Miss.TheVariants as miss
+use Rattle.od_language.specs.declared.lexeme.LexKind.{LexKind}
+use Rattle.od_language.specs.declared.lexeme.LexKind.TheVariants as lexeme
+use Rattle.od_language.specs.Identifier.{in_identifier, is_identifier}
+use Rattle.od_language.specs.Spelling.{begins_word, in_word, is_quote, pair, number, IsNumber, QuotedText, closed, escaped, plain, RegexText, ended, paired, kept, symbol_of, Spells, word, quoted, regex, name_open, exactly, between, at_least, at_most, symbol}
+use Rattle.od_language.specs.Lexing.{miss_at}
 use Rattle.od_lex.specs.Forms as form
 
 -- a fact of both branches

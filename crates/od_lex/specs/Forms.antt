@@ -3,14 +3,14 @@ use Rattle.std.specs.Prelude.{◌≡◌, ℕ, Bool, true, false, ◌&&◌, ◌==
 use Rattle.std.specs.List.{prefix_len}
 use Rattle.std.specs.Char.{encode_utf8, is_ascii_digit}
 use Rattle.std.specs.Str.{encode_utf8_all}
-use Rattle.od_model.specs.declared.lexeme.Miss.{Miss}
-use Rattle.od_model.specs.declared.lexeme.Miss.TheVariants as miss
+use Rattle.od_language.specs.declared.lexeme.Miss.{Miss}
+use Rattle.od_language.specs.declared.lexeme.Miss.TheVariants as miss
 use Rattle.od_lex.specs.declared.form.Stop.{Stop}
 use Rattle.od_lex.specs.declared.form.Stop.TheVariants as stop
-use Rattle.od_model.specs.declared.lexeme.LexKind.{LexKind}
-use Rattle.od_model.specs.declared.lexeme.LexKind.TheVariants as lexeme
-use Rattle.od_model.specs.Pattern.Identifier.{in_identifier, is_identifier}
-use Rattle.od_model.specs.Pattern.Spelling.{begins_word, in_word, is_quote, pair, number}
+use Rattle.od_language.specs.declared.lexeme.LexKind.{LexKind}
+use Rattle.od_language.specs.declared.lexeme.LexKind.TheVariants as lexeme
+use Rattle.od_language.specs.Identifier.{in_identifier, is_identifier}
+use Rattle.od_language.specs.Spelling.{begins_word, in_word, is_quote, pair, number}
 
 -- c before what is spelled
 abbrev pub before : List ℕ → Option (List ℕ × List ℕ) → Option (List ℕ × List ℕ)

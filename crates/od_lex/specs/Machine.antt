@@ -1,21 +1,21 @@
 -- A constraint read one lexeme at a time: the means by which the parser is proved. Only proofs and the contracts of the parser's parts speak of it.
 use Rattle.std.specs.Prelude.{◌≡◌, ℕ, zero, suc, List, [], ◌∷◌, Option, Some, None, Result, Ok, Err}
-use Rattle.od_model.specs.declared.pattern.Field.{Field}
-use Rattle.od_model.specs.declared.pattern.Value.{Value}
-use Rattle.od_model.specs.declared.pattern.Value.TheVariants.{Plain}
-use Rattle.od_model.specs.declared.pattern.Value.TheVariants as value
-use Rattle.od_model.specs.declared.pattern.Constraint.{Constraint}
-use Rattle.od_model.specs.declared.pattern.Constraint.TheVariants as constraint
-use Rattle.od_model.specs.declared.pattern_fault.PatternKind.{PatternKind}
-use Rattle.od_model.specs.declared.pattern_fault.PatternKind.TheVariants as kind
-use Rattle.od_model.specs.declared.pattern_fault.PatternFault.{PatternFault}
-use Rattle.od_model.specs.declared.pattern_fault.PatternFault.TheVariants as fault
-use Rattle.od_model.specs.declared.lexeme.Lexeme.{Lexeme}
-use Rattle.od_model.specs.declared.lexeme.LexKind.{LexKind}
-use Rattle.od_model.specs.declared.lexeme.LexKind.TheVariants.{Word, Quoted, Regex, SquareOpen, SquareClose, RoundOpen, RoundClose, And, Or, Not, Equal}
-use Rattle.od_model.specs.Pattern.Fields.{field_named, compared_text}
-use Rattle.od_model.specs.Pattern.Depth.{depth_behind, broken_rule}
-use Rattle.od_model.specs.Pattern.Machine.{◌>>=◌, Outcome}
+use Rattle.od_pattern.specs.declared.pattern.Field.{Field}
+use Rattle.od_pattern.specs.declared.pattern.Value.{Value}
+use Rattle.od_pattern.specs.declared.pattern.Value.TheVariants.{Plain}
+use Rattle.od_pattern.specs.declared.pattern.Value.TheVariants as value
+use Rattle.od_pattern.specs.declared.pattern.Constraint.{Constraint}
+use Rattle.od_pattern.specs.declared.pattern.Constraint.TheVariants as constraint
+use Rattle.od_language.specs.declared.pattern_fault.PatternKind.{PatternKind}
+use Rattle.od_language.specs.declared.pattern_fault.PatternKind.TheVariants as kind
+use Rattle.od_language.specs.declared.pattern_fault.PatternFault.{PatternFault}
+use Rattle.od_language.specs.declared.pattern_fault.PatternFault.TheVariants as fault
+use Rattle.od_language.specs.declared.lexeme.Lexeme.{Lexeme}
+use Rattle.od_language.specs.declared.lexeme.LexKind.{LexKind}
+use Rattle.od_language.specs.declared.lexeme.LexKind.TheVariants.{Word, Quoted, Regex, SquareOpen, SquareClose, RoundOpen, RoundClose, And, Or, Not, Equal}
+use Rattle.od_language.specs.Fields.{field_named, compared_text}
+use Rattle.od_language.specs.Depth.{depth_behind, broken_rule}
+use Rattle.od_language.specs.Machine.{◌>>=◌, Outcome}
 
 -- the brackets that are open, the innermost first: behind a `(` with the `!` before it, and the operands before that
 pub data Open : Type 0 where

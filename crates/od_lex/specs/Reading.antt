@@ -1,12 +1,12 @@
 -- The lexemes of a text by the forms that the lexer tests.
 use Rattle.std.specs.Prelude.{◌≡◌, ℕ, ◌+◌, true, false, List, [], ◌∷◌, ◌++◌, Option, Some, None, Ok, Err}
 use Rattle.std.specs.Char.{len_utf8, is_whitespace}
-use Rattle.od_model.specs.declared.lexeme.Miss.{Miss}
-use Rattle.od_model.specs.declared.lexeme.Lexeme.{Lexeme}
-use Rattle.od_model.specs.declared.lexeme.LexKind.{LexKind}
-use Rattle.od_model.specs.declared.lexeme.LexKind.TheVariants as lexeme
+use Rattle.od_language.specs.declared.lexeme.Miss.{Miss}
+use Rattle.od_language.specs.declared.lexeme.Lexeme.{Lexeme}
+use Rattle.od_language.specs.declared.lexeme.LexKind.{LexKind}
+use Rattle.od_language.specs.declared.lexeme.LexKind.TheVariants as lexeme
 use Rattle.od_lex.specs.Forms.{form}
-use Rattle.od_model.specs.Pattern.Lexing.{size_of}
+use Rattle.od_language.specs.Lexing.{size_of}
 
 -- the lexemes before the first fault, `End` at its place or at the text's length, and the fault
 pub data Formed : ℕ → List ℕ → List Lexeme → Option (ℕ × Miss) → Type 0 where

@@ -1,25 +1,25 @@
 //! A constraint, read from lexemes.
 ghost use Rattle.std.specs.Prelude.{◌≡◌, ℕ, ◌+◌, ◌-◌, ◌^◌, ◌<◌, ◌≤◌, List, [], ◌∷◌, ◌++◌, drop, length, Option, Some, None, Ok, take, MatchOption, MatchResult, MatchBool, IfOk, IsTrue, ◌↔◌, suc};
-ghost use Rattle.od_model.specs.declared.pattern_fault.PatternKind.{PatternKind};
-ghost use Rattle.od_model.specs.declared.pattern_fault.PatternKind.TheVariants as kind;
-ghost use Rattle.od_model.specs.declared.pattern.Value.TheVariants as asked;
-ghost use Rattle.od_model.specs.declared.lexeme.LexKind.TheVariants as lexeme;
-ghost use Rattle.od_model.specs.declared.lexeme.Lexeme.{Lexeme};
-ghost use Rattle.od_model.specs.declared.pattern.Constraint.{Constraint};
-ghost use Rattle.od_model.specs.declared.pattern.Constraint.TheVariants as constraint;
-ghost use Rattle.od_model.specs.Pattern.Fields.{field_named, compared_text, is_text};
-ghost use Rattle.od_model.specs.Pattern.Grammar.{IsConstraint};
-ghost use Rattle.od_model.specs.Pattern.Written.{written, IsWritable};
-ghost use Rattle.od_model.specs.declared.lexeme.LexKind.{LexKind};
-ghost use Rattle.od_model.specs.Pattern.Depth.{depth_behind, depth_before, BreaksRule};
-ghost use Rattle.od_model.specs.Pattern.FirstFault.{kinds, Keeps, IsEnded, IsRead, IsFault, IfBad, OneAnswer, Gives, Refuses};
+ghost use Rattle.od_language.specs.declared.pattern_fault.PatternKind.{PatternKind};
+ghost use Rattle.od_language.specs.declared.pattern_fault.PatternKind.TheVariants as kind;
+ghost use Rattle.od_pattern.specs.declared.pattern.Value.TheVariants as asked;
+ghost use Rattle.od_language.specs.declared.lexeme.LexKind.TheVariants as lexeme;
+ghost use Rattle.od_language.specs.declared.lexeme.Lexeme.{Lexeme};
+ghost use Rattle.od_pattern.specs.declared.pattern.Constraint.{Constraint};
+ghost use Rattle.od_pattern.specs.declared.pattern.Constraint.TheVariants as constraint;
+ghost use Rattle.od_language.specs.Fields.{field_named, compared_text, is_text};
+ghost use Rattle.od_language.specs.Grammar.{IsConstraint};
+ghost use Rattle.od_language.specs.Written.{written, IsWritable};
+ghost use Rattle.od_language.specs.declared.lexeme.LexKind.{LexKind};
+ghost use Rattle.od_language.specs.Depth.{depth_behind, depth_before, BreaksRule};
+ghost use Rattle.od_language.specs.FirstFault.{kinds, Keeps, IsEnded, IsRead, IsFault, IfBad, OneAnswer, Gives, Refuses};
 ghost use Rattle.od_lex.specs.Machine.{Open, square, round, start, first, NoAnd, NoOr, NoNot, operand, named, equals, after, both, either, negated, run, Leads, place_of, Makes};
 
 use caseless::default_case_fold_str;
-use od_model::lexeme::{LexKind, Lexeme};
-use od_model::pattern::{Constraint, Field, Value};
-use od_model::pattern_fault::{PatternFault, PatternKind};
-use od_model::text::{Copied, Text};
+use od_language::lexeme::{LexKind, Lexeme};
+use od_language::pattern_fault::{PatternFault, PatternKind};
+use od_pattern::pattern::{Constraint, Field, Value};
+use od_text::text::{Copied, Text};
 use sqlite_items::Boxed;
 use std::alloc::Global;
 
@@ -84,7 +84,7 @@ fn is_named(name: &Text, field: &str) -> bool
 }
 
 /// The field of a name.
-#[tactic(auto, unfolding(od_model::specs::Pattern::Fields::field_named))]
+#[tactic(auto, unfolding(od_language::specs::Fields::field_named))]
 fn field_of(name: &Text) -> Option<Field>
     ensures { result ≡ field_named name.now }
 {

@@ -2,12 +2,12 @@
 ghost use Rattle.std.specs.Prelude.{◌≡◌, ℕ, ◌+◌, ◌-◌, ◌*◌, ◌^◌, ◌<◌, ◌≤◌, List, [], ◌∷◌, ◌++◌, drop, take, length, Option, Some, None, Ok, Err, MatchOption, IfOk, IfSome, OnOk, IsTrue, string_bytes, Bool, true, false};
 ghost use Rattle.std.specs.List.{list_all};
 ghost use Rattle.od_lex.specs.Forms as lex;
-ghost use Rattle.od_model.specs.Pattern.Identifier as identifier;
-ghost use Rattle.od_model.specs.Pattern.Spelling as spelling;
+ghost use Rattle.od_language.specs.Identifier as identifier;
+ghost use Rattle.od_language.specs.Spelling as spelling;
 
 use crate::scan;
-use od_model::lexeme::{LexKind, Miss};
-use od_model::text::{NoMemory, Text};
+use od_language::lexeme::{LexKind, Miss};
+use od_text::text::{NoMemory, Text};
 use std::alloc::Global;
 
 /// Why there is no lexeme.

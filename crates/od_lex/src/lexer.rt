@@ -1,16 +1,16 @@
 //! The lexemes of a text.
 ghost use Rattle.std.specs.Prelude.{◌≡◌, ℕ, ◌+◌, ◌-◌, ◌^◌, ◌<◌, ◌≤◌, List, [], ◌∷◌, ◌++◌, drop, take, length, Option, Some, None, Ok, IfOk, IfErr, OnOk, if◌then◌else◌};
 ghost use Rattle.std.specs.Str.{chars as chars_in};
-ghost use Rattle.od_model.specs.declared.lexeme.LexKind.TheVariants as lexeme;
-ghost use Rattle.od_model.specs.Pattern.Lexing.{size_of as bytes_of, Lexes, OneReading, IsLexFault, GivesLexemes, RefusesText, lex_fault};
+ghost use Rattle.od_language.specs.declared.lexeme.LexKind.TheVariants as lexeme;
+ghost use Rattle.od_language.specs.Lexing.{size_of as bytes_of, Lexes, OneReading, IsLexFault, GivesLexemes, RefusesText, lex_fault};
 ghost use Rattle.od_lex.specs.Reading.{Formed};
-ghost use Rattle.od_model.specs.declared.lexeme.Lexeme.{Lexeme};
-ghost use Rattle.od_model.specs.declared.lexeme.Miss.{Miss};
+ghost use Rattle.od_language.specs.declared.lexeme.Lexeme.{Lexeme};
+ghost use Rattle.od_language.specs.declared.lexeme.Miss.{Miss};
 
 use crate::form::{Stop, form};
 use crate::scan;
-use od_model::lexeme::{LexFault, LexKind, Lexeme, Miss};
-use od_model::text::NoMemory;
+use od_language::lexeme::{LexFault, LexKind, Lexeme, Miss};
+use od_text::text::NoMemory;
 use std::alloc::Global;
 
 /// How many bytes these characters have.

@@ -4,10 +4,10 @@ ghost use Rattle.std.specs.List.{prefix_len};
 ghost use Rattle.std.specs.Char.{encode_utf8, is_ascii_digit};
 ghost use Rattle.std.specs.Str.{encode_utf8_all, chars as chars_in};
 ghost use Rattle.od_lex.specs.Forms as lex;
-ghost use Rattle.od_model.specs.Pattern.Identifier as identifier;
-ghost use Rattle.od_model.specs.Pattern.Spelling as spelling;
+ghost use Rattle.od_language.specs.Identifier as identifier;
+ghost use Rattle.od_language.specs.Spelling as spelling;
 
-use od_model::text::{NoMemory, Text};
+use od_text::text::{NoMemory, Text};
 use std::alloc::Global;
 
 /// The characters of a text.

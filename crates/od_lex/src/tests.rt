@@ -1,8 +1,8 @@
 use crate::{lex, parse_constraint, tokens};
-use od_model::lexeme::{LexFault, LexKind, Miss};
-use od_model::pattern::Constraint;
-use od_model::pattern_fault::{PatternFault, PatternKind};
-use od_model::text::Copied;
+use od_language::lexeme::{LexFault, LexKind, Miss};
+use od_language::pattern_fault::{PatternFault, PatternKind};
+use od_pattern::pattern::Constraint;
+use od_text::text::Copied;
 use std::alloc::Global;
 use std::test::Fail;
 use std::thread;

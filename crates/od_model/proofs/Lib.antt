@@ -1,10 +1,4 @@
--- The lemmas of this crate, each named by a line `pub mod`.
-pub mod Document
+-- The lemmas of this crate.
 pub mod Histories
-pub mod Lists
-pub mod Matching
 pub mod Objects
-pub mod Reading
-pub mod Rounds
 pub mod Runnable
-pub mod Walks

@@ -1,3 +1,3 @@
+pub mod Examples
 pub mod Names
 pub mod Places
-pub mod Examples

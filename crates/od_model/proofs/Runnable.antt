@@ -1,14 +1,14 @@
 -- What a script that was read has.
 use Rattle.std.proofs.Common.{◌≡◌, ℕ, List, [], ◌∷◌, length, take, drop, Option, Some, None, Bool, true, false, ◌&&◌, if◌then◌else◌, refl, ap, subst, arith}
 use Rattle.std.specs.Prelude.{nat_lt, bytes_eq, codes}
-use Rattle.od_model.specs.declared.grammar.Head.{Head}
-use Rattle.od_model.specs.declared.script.Script.{Script}
-use Rattle.od_model.specs.Lists.{Each}
-use Rattle.od_model.specs.Document.Columns.{split_once}
-use Rattle.od_model.specs.Grammars.Query.{grammar_of, query_grammar, is_word_query, words_of}
+use Rattle.od_pattern.specs.declared.grammar.Head.{Head}
+use Rattle.od_order.specs.declared.script.Script.{Script}
+use Rattle.od_text.specs.Lists.{Each}
+use Rattle.od_text.specs.Cuts.{split_once}
+use Rattle.od_language.specs.Query.{grammar_of, query_grammar, is_word_query, words_of}
 use Rattle.od_model.specs.History.Prints.{IsAccepted}
-use Rattle.od_model.specs.Script.Runnable.{IsQuery, IsRunnable}
-use Rattle.od_model.specs.Script.Thin.{script_of, script_in, script_headed, script_block, script_behind, script_opened, script_with, query_line, query_begun, query_named, doc_words, open_words, block_of, parts_of, is_name, most_bytes}
+use Rattle.od_order.specs.Runnable.{IsQuery, IsRunnable}
+use Rattle.od_order.specs.Thin.{script_of, script_in, script_headed, script_block, script_behind, script_opened, script_with, query_line, query_begun, query_named, doc_words, open_words, block_of, parts_of, is_name, most_bytes}
 
 -- the grammars of queries are accepted
 pub accepted-of : (heads : List Head) → Each IsQuery heads → Each IsAccepted heads

@@ -1,4 +1,3 @@
 pub mod Due
 pub mod Effects
-pub mod Parts
 pub mod Replies

@@ -1,13 +1,13 @@
 -- One client more.
 use Rattle.std.proofs.Common.{◌≡◌, ℕ, zero, suc, ◌+◌, ◌<◌, ◌≤◌, List, [], ◌∷◌, ◌++◌, length, take, drop, get_or, Bool, true, false, ◌&&◌, IsTrue, refl, sym, ap, ap₂, ◌∙◌, subst, arith, length-append}
 use Rattle.std.proofs.lemmas.List.{take_more, take-append-drop}
-use Rattle.od_model.specs.declared.history.Entry.{Entry}
-use Rattle.od_model.specs.declared.script.Order.{Order}
-use Rattle.od_model.specs.Lists.{Each}
+use Rattle.od_command.specs.declared.history.Entry.{Entry}
+use Rattle.od_order.specs.declared.script.Order.{Order}
+use Rattle.od_text.specs.Lists.{Each}
 use Rattle.od_model.specs.History.Legal.{mine}
 use Rattle.od_model.specs.History.Orders.{Begins}
 use Rattle.od_model.specs.Run.Clients.{EachClient, OfClients}
-use Rattle.od_model.proofs.Lists.{Each-append}
+use Rattle.od_text.proofs.Lists.{Each-append}
 use Rattle.od_model.proofs.Histories.Callers.{AreOf, EachFrom, EachFrom-append, EachFrom-later, EachFrom-none, each-client, mine-next, mine-new}
 use Rattle.od_serve.specs.Running.Told.{GoesFurther}
 

@@ -1,21 +1,21 @@
 -- How a run ends.
 use Rattle.std.proofs.Common.{◌≡◌, ℕ, ◌<◌, List, [], length, Option, Some, None, if◌then◌else◌, ap, lt-ltb}
 use Rattle.std.specs.Option.{IfSome}
-use Rattle.od_model.specs.declared.grammar.Head.{Head}
-use Rattle.od_model.specs.declared.history.Entry.{Entry}
-use Rattle.od_model.specs.declared.script.Script.{Script}
-use Rattle.od_model.specs.Lists.{Each}
-use Rattle.od_model.specs.Object.Parts.{nothing}
+use Rattle.od_pattern.specs.declared.grammar.Head.{Head}
+use Rattle.od_command.specs.declared.history.Entry.{Entry}
+use Rattle.od_order.specs.declared.script.Script.{Script}
+use Rattle.od_text.specs.Lists.{Each}
+use Rattle.od_session.specs.Parts.{nothing}
 use Rattle.od_model.specs.History.Legal.{Legal}
 use Rattle.od_model.specs.History.Orders.{Follows, Begins}
-use Rattle.od_model.specs.Script.Runnable.{IsQuery}
+use Rattle.od_order.specs.Runnable.{IsQuery}
 use Rattle.od_model.specs.Run.Clients.{EachClient, OfClients}
 use Rattle.od_model.specs.Run.Outcome.{Ran, RanWhole}
 use Rattle.od_model.proofs.Histories.Prints.{prints-rounds}
 use Rattle.od_model.proofs.Histories.Sound.{sound-nothing}
 use Rattle.od_model.proofs.Runnable.{accepted-of}
-use Rattle.od_model.specs.declared.object.OneThread.{OneThread}
-use Rattle.od_model.specs.Script.Thin.{script_of, script_in, parts_of, most_bytes}
+use Rattle.od_session.specs.declared.object.OneThread.{OneThread}
+use Rattle.od_order.specs.Thin.{script_of, script_in, parts_of, most_bytes}
 use Rattle.od_model.specs.Run.Outcome.{IsNoScript}
 use Rattle.od_serve.specs.Running.Told.{IsTold, IsReached}
 use Rattle.od_serve.proofs.Telling.{reached-none}

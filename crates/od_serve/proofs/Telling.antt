@@ -3,32 +3,32 @@ use Rattle.std.proofs.Common.{◌≡◌, ℕ, ◌+◌, List, [], ◌∷◌, ◌+
 use Rattle.std.specs.Io.KnownBytes.{Appends}
 use Rattle.std.proofs.KnownBytes.{Appends-trans, Appends-nil}
 use Rattle.od_io.specs.Streams.Writing.{AppendsProperPrefix}
-use Rattle.od_model.specs.declared.grammar.Head.{Head}
-use Rattle.od_model.specs.declared.history.Entry.{Entry}
-use Rattle.od_model.specs.declared.history.Command.{Command}
-use Rattle.od_model.specs.declared.history.Phase.{Phase}
-use Rattle.od_model.specs.declared.history.Phase.TheVariants.{Going, Finished, AtLimit}
-use Rattle.od_model.specs.declared.history.Reply.{Reply}
-use Rattle.od_model.specs.declared.history.Reply.TheVariants.{Stepped}
-use Rattle.od_model.specs.declared.script.Order.{Order}
-use Rattle.od_model.specs.declared.script.Order.TheVariants.{One, Run}
-use Rattle.od_model.specs.declared.object.OneThread.{OneThread}
-use Rattle.od_model.specs.Object.Parts.{nothing}
+use Rattle.od_pattern.specs.declared.grammar.Head.{Head}
+use Rattle.od_command.specs.declared.history.Entry.{Entry}
+use Rattle.od_command.specs.declared.history.Command.{Command}
+use Rattle.od_extraction.specs.declared.phase.Phase.{Phase}
+use Rattle.od_extraction.specs.declared.phase.Phase.TheVariants.{Going, Finished, AtLimit}
+use Rattle.od_command.specs.declared.history.Reply.{Reply}
+use Rattle.od_command.specs.declared.history.Reply.TheVariants.{Stepped}
+use Rattle.od_order.specs.declared.script.Order.{Order}
+use Rattle.od_order.specs.declared.script.Order.TheVariants.{One, Run}
+use Rattle.od_session.specs.declared.object.OneThread.{OneThread}
+use Rattle.od_session.specs.Parts.{nothing}
 use Rattle.od_model.specs.Object.Replies.{Replies}
 use Rattle.od_model.specs.Object.Effects.{effect}
 use Rattle.od_model.specs.History.Legal.{state_after, mine, Legal}
 use Rattle.od_model.specs.History.Lines.{entry_lines, Lines}
 use Rattle.od_model.specs.Run.Outcome.{IsCutShort}
 use Rattle.od_model.proofs.Histories.Steps.{state_after-start, state_after-snoc, Legal-snoc, Lines-snoc}
-use Rattle.od_model.specs.declared.history.Command.TheVariants.{Step}
-use Rattle.od_model.specs.Lists.{Each}
+use Rattle.od_command.specs.declared.history.Command.TheVariants.{Step}
+use Rattle.od_text.specs.Lists.{Each}
 use Rattle.od_model.specs.History.Orders.{GoesOn, Follows, Begins}
-use Rattle.od_model.specs.Script.Runnable.{IsQuery}
+use Rattle.od_order.specs.Runnable.{IsQuery}
 use Rattle.od_model.proofs.Runnable.{accepted-of}
 use Rattle.od_model.proofs.Histories.Steps.{Legal-at}
 use Rattle.od_model.proofs.Histories.Sound.{IsSound, sound-after, sound-nothing}
 use Rattle.od_model.proofs.Histories.Climbs.{list_count, step-climbs}
-use Rattle.od_model.proofs.Lists.{Each-append}
+use Rattle.od_text.proofs.Lists.{Each-append}
 use Rattle.od_model.proofs.Histories.Orders.{Follows-one, Follows-run, IsGoing-snoc, Begins-none, Follows-after, Begins-after, Follows-begun}
 use Rattle.od_model.proofs.Histories.Callers.{mine-append, mine-own}
 use Rattle.od_serve.specs.Running.Told.{IsReached, OneMore, AtMostOne, none, one, GoesFurther, GoesOnSteps}

@@ -1,9 +1,2 @@
--- The words of this crate, each named by a line `pub mod`.
-pub mod Cuts
-pub mod Hashes
-pub mod Known
-pub mod Queries
+-- The definitions of this crate.
 pub mod Running
-pub mod Scripts
-pub mod Stores
-pub mod Walks

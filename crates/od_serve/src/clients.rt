@@ -1,23 +1,23 @@
 //! The clients of a script, run one after another.
 ghost use Rattle.std.specs.Prelude.{◌≡◌, ℕ, ◌+◌, ◌<◌, ◌≤◌, List as Seq, [], length, Option, IfOk, OnOk, OnErr, IsTrue};
 ghost use Rattle.od_io.specs.Streams.Count.{Rose};
-ghost use Rattle.od_model.specs.declared.script.Order.{Order as SpecOrder};
-ghost use Rattle.od_model.specs.Lists.{Each};
-ghost use Rattle.od_model.specs.Object.Parts.{nothing};
+ghost use Rattle.od_order.specs.declared.script.Order.{Order as SpecOrder};
+ghost use Rattle.od_text.specs.Lists.{Each};
+ghost use Rattle.od_session.specs.Parts.{nothing};
 ghost use Rattle.od_model.specs.History.Legal.{Legal, mine};
 ghost use Rattle.od_model.specs.History.Orders.{Follows, Begins};
-ghost use Rattle.od_model.specs.Script.Runnable.{IsQuery};
+ghost use Rattle.od_order.specs.Runnable.{IsQuery};
 ghost use Rattle.od_model.specs.Run.Clients.{EachClient, OfClients};
 ghost use Rattle.od_model.specs.Run.Outcome.{IsCutShort};
 ghost use Rattle.od_serve.specs.Running.Told.{IsTold, IsReached, GoesFurther};
 
 use crate::run::{Stop, run_client};
-use crate::store::Store;
+use od_command::history::Entry;
+use od_desk::store::Store;
 use od_io::{Failed, Sink};
-use od_model::grammar::Head;
-use od_model::history::Entry;
-use od_model::list::List;
-use od_model::script::Order;
+use od_order::script::Order;
+use od_pattern::grammar::Head;
+use od_text::list::List;
 use std::alloc::Global;
 
 /// Follows a client's orders as far as there is memory, and gives whether that is to their end. Only a write that failed ends the others too.

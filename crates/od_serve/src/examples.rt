@@ -1,10 +1,10 @@
 //! What the tests of several modules use.
 ghost use Rattle.std.specs.Prelude.{IfOk};
-ghost use Rattle.od_model.specs.Script.Runnable.{IsQuery};
+ghost use Rattle.od_order.specs.Runnable.{IsQuery};
 
-use od_model::grammar::{GrammarKind, Head};
-use od_model::history::Command;
-use od_model::text::{Bytes, NoMemory, Text};
+use od_command::history::Command;
+use od_pattern::grammar::{GrammarKind, Head};
+use od_text::text::{Bytes, NoMemory, Text};
 use std::alloc::Global;
 
 /// A document of one sentence, `Dogs bark`.

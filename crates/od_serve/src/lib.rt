@@ -2,20 +2,12 @@
 #![tactic(auto)]
 
 mod clients;
-mod cut;
 #[cfg(test)]
 mod examples;
-mod known;
-mod lines;
-mod names;
-mod query;
-mod round;
 mod run;
-mod scan;
-mod script;
 mod serve;
 mod shown;
-mod store;
-mod walk;
+#[cfg(test)]
+mod tests;
 
 pub use serve::{Ended, is_serve, odinson};

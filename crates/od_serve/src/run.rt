@@ -1,23 +1,24 @@
 //! The clients' commands, answered one after another, and their lines written.
 ghost use Rattle.std.specs.Prelude.{◌≡◌, ◌↔◌, ℕ, ◌+◌, ◌*◌, ◌^◌, ◌<◌, ◌≤◌, List as Seq, [], ◌∷◌, ◌++◌, length, Option, IfOk, OnOk, OnErr, IfErr, IsTrue, IsErrOf};
 ghost use Rattle.od_io.specs.Streams.Count.{Rose};
-ghost use Rattle.od_model.specs.Lists.{Each};
-ghost use Rattle.od_model.specs.Object.Parts.{nothing};
+ghost use Rattle.od_text.specs.Lists.{Each};
+ghost use Rattle.od_session.specs.Parts.{nothing};
 ghost use Rattle.od_model.specs.History.Legal.{mine};
 ghost use Rattle.od_model.specs.History.Orders.{GoesOn, Follows, Begins};
-ghost use Rattle.od_model.specs.Script.Runnable.{IsQuery};
+ghost use Rattle.od_order.specs.Runnable.{IsQuery};
 ghost use Rattle.od_serve.specs.Running.Told.{IsTold, IsReached, EndsAt, OneMore, AtMostOne, GoesFurther};
-ghost use Rattle.od_model.specs.declared.script.Order.TheVariants.{Run};
+ghost use Rattle.od_order.specs.declared.script.Order.TheVariants.{Run};
 
 use crate::shown::entry_lines;
-use crate::store::Store;
-use crate::store::change::Answer;
+use od_command::history::{Command, Entry, Reply};
+use od_desk::store::Store;
+use od_desk::store::change::Answer;
+use od_extraction::phase::Phase;
 use od_io::{Sink, write_whole};
-use od_model::grammar::Head;
-use od_model::history::{Command, Entry, Phase, Reply};
-use od_model::list::List;
-use od_model::script::Order;
-use od_model::text::{Copied, Text};
+use od_order::script::Order;
+use od_pattern::grammar::Head;
+use od_text::list::List;
+use od_text::text::{Copied, Text};
 use std::alloc::Global;
 
 /// Why a run ended before all commands were answered.

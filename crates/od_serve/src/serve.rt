@@ -7,15 +7,15 @@ ghost use Rattle.od_model.specs.Run.Clients.{has_refusal};
 ghost use Rattle.od_model.specs.Run.Ends.{Answered, CanEndSo, EndsWith};
 ghost use Rattle.od_model.specs.Run.Outcome.{Outcome, RunOutcome, IsNoScript, RunsScript};
 ghost use Rattle.od_model.specs.Run.Words.{is_serve, exit_status, diagnostic};
-ghost use Rattle.od_model.specs.Script.Runnable.{IsRunnable};
+ghost use Rattle.od_order.specs.Runnable.{IsRunnable};
 
 use crate::clients::run_clients;
-use crate::script::{ScriptFault, read_script};
-use crate::store::Store;
+use od_command::history::{Entry, Reply};
+use od_desk::store::Store;
 use od_io::{ReadAll, Sink, Source, read_all, write_whole};
-use od_model::history::{Entry, Reply};
-use od_model::script::Script;
 use od_model::status::Status;
+use od_order::script::Script;
+use od_script::{ScriptFault, read_script};
 use std::alloc::Global;
 
 #[cfg(test)]

@@ -1,12 +1,12 @@
 //! The lines of an entry, over the object that it left.
 ghost use Rattle.std.specs.Prelude.{◌≡◌, IfOk};
-ghost use Rattle.od_model.specs.Object.Parts.{session_of};
+ghost use Rattle.od_session.specs.Parts.{session_of};
 ghost use Rattle.od_model.specs.History.Lines.{entry_lines, lines_before, lines_of_session};
 
-use crate::lines::{entry_line, session_lines};
-use crate::store::Store;
-use od_model::history::{Command, Entry, Reply};
-use od_model::text::{Bytes, NoMemory, Text};
+use od_command::history::{Command, Entry, Reply};
+use od_desk::store::Store;
+use od_lines::{entry_line, session_lines};
+use od_text::text::{Bytes, NoMemory, Text};
 use std::alloc::Global;
 
 /// The lines of the mentions of a session, if it is there.

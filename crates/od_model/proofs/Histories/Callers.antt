@@ -3,9 +3,9 @@ use Rattle.std.proofs.Common.{◌≡◌, ◌≢◌, ℕ, zero, suc, ◌+◌, ◌
 use Rattle.std.specs.Prelude.{◌==◌}
 use Rattle.std.proofs.lemmas.Bool.{eqb-true}
 use Rattle.std.proofs.lemmas.List.Elements.{filter-append}
-use Rattle.od_model.specs.declared.history.Entry.{Entry}
-use Rattle.od_model.specs.declared.script.Order.{Order}
-use Rattle.od_model.specs.Lists.{Each}
+use Rattle.od_command.specs.declared.history.Entry.{Entry}
+use Rattle.od_order.specs.declared.script.Order.{Order}
+use Rattle.od_text.specs.Lists.{Each}
 use Rattle.od_model.specs.History.Legal.{mine}
 use Rattle.od_model.specs.History.Orders.{Follows, Begins}
 use Rattle.od_model.specs.Run.Clients.{EachClient}

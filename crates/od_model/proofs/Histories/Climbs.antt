@@ -1,19 +1,19 @@
 -- A step that goes on adds a list to its session, of which there are at most 100.
 use Rattle.std.proofs.Common.{◌≡◌, ℕ, ◌+◌, ◌≤◌, List, [], ◌∷◌, length, find, Option, Some, None, Bool, true, false, cond, refl, sym, ap, ◌∙◌, subst, arith, length-append}
 use Rattle.std.specs.Prelude.{option_map}
-use Rattle.od_model.specs.declared.doc.Doc.{Doc}
-use Rattle.od_model.specs.declared.grammar.Head.{Head}
-use Rattle.od_model.specs.declared.history.Command.TheVariants.{Step}
-use Rattle.od_model.specs.declared.history.Reply.{Reply}
-use Rattle.od_model.specs.declared.history.Reply.TheVariants.{Stepped}
-use Rattle.od_model.specs.declared.object.SessionState.{SessionState}
-use Rattle.od_model.specs.declared.object.OneThread.{OneThread}
-use Rattle.od_model.specs.Lists.{Each}
-use Rattle.od_model.specs.Object.Parts.{is_named, session_of, round_at}
+use Rattle.od_document.specs.declared.doc.Doc.{Doc}
+use Rattle.od_pattern.specs.declared.grammar.Head.{Head}
+use Rattle.od_command.specs.declared.history.Command.TheVariants.{Step}
+use Rattle.od_command.specs.declared.history.Reply.{Reply}
+use Rattle.od_command.specs.declared.history.Reply.TheVariants.{Stepped}
+use Rattle.od_session.specs.declared.object.SessionState.{SessionState}
+use Rattle.od_session.specs.declared.object.OneThread.{OneThread}
+use Rattle.od_text.specs.Lists.{Each}
+use Rattle.od_session.specs.Parts.{is_named, session_of, round_at}
 use Rattle.od_model.specs.Object.Replies.{reply_step, held_in, Replies}
 use Rattle.od_model.specs.Object.Effects.{change, change_one, stepped, found_of, effect_of}
 use Rattle.od_model.specs.History.Orders.{GoesOn}
-use Rattle.od_model.proofs.Lists.{find-map, find-passes, Each-find}
+use Rattle.od_text.proofs.Lists.{find-map, find-passes, Each-find}
 use Rattle.od_model.proofs.Histories.Sound.{IsSound, IsSoundSession}
 
 -- the number of lists of a session that may be there

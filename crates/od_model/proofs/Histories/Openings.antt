@@ -3,24 +3,24 @@ use Rattle.std.proofs.Common.{◌≡◌, inl, inr, ℕ, List, [], ◌∷◌, ◌
 use Rattle.std.specs.List.{list_any}
 use Rattle.std.proofs.lemmas.List.{take-append-le}
 use Rattle.std.proofs.Math.Seq.{take-length}
-use Rattle.od_model.specs.declared.doc.Doc.{Doc}
-use Rattle.od_model.specs.declared.grammar.Head.{Head}
-use Rattle.od_model.specs.declared.history.Command.{Command}
-use Rattle.od_model.specs.declared.history.Command.TheVariants.{AddDoc, OpenSession, Step, Resume, Print, Release, Settle}
-use Rattle.od_model.specs.declared.history.Reply.{Reply}
-use Rattle.od_model.specs.declared.history.Reply.TheVariants.{Added, Opened, Stepped, Resumed, Released, Refused}
-use Rattle.od_model.specs.declared.history.Refusal.TheVariants.{BadLimit, Taken, NoRoom}
-use Rattle.od_model.specs.declared.history.Entry.{Entry}
-use Rattle.od_model.specs.declared.object.SessionState.{SessionState}
-use Rattle.od_model.specs.declared.object.OneThread.{OneThread}
-use Rattle.od_model.specs.Document.Building.{document_of}
-use Rattle.od_model.specs.Lists.{Each, points_after}
-use Rattle.od_model.specs.Object.Parts.{is_named, Distinct, session_of, has_session, head_of}
+use Rattle.od_document.specs.declared.doc.Doc.{Doc}
+use Rattle.od_pattern.specs.declared.grammar.Head.{Head}
+use Rattle.od_command.specs.declared.history.Command.{Command}
+use Rattle.od_command.specs.declared.history.Command.TheVariants.{AddDoc, OpenSession, Step, Resume, Print, Release, Settle}
+use Rattle.od_command.specs.declared.history.Reply.{Reply}
+use Rattle.od_command.specs.declared.history.Reply.TheVariants.{Added, Opened, Stepped, Resumed, Released, Refused}
+use Rattle.od_command.specs.declared.history.Refusal.TheVariants.{BadLimit, Taken, NoRoom}
+use Rattle.od_command.specs.declared.history.Entry.{Entry}
+use Rattle.od_session.specs.declared.object.SessionState.{SessionState}
+use Rattle.od_session.specs.declared.object.OneThread.{OneThread}
+use Rattle.od_document.specs.Building.{document_of}
+use Rattle.od_text.specs.Lists.{Each, points_after}
+use Rattle.od_session.specs.Parts.{is_named, Distinct, session_of, has_session, head_of}
 use Rattle.od_model.specs.Object.Replies.{reply_headed, Replies}
 use Rattle.od_model.specs.Object.Effects.{doc_made, change, stepped, taken_by, let_go, effect_of}
 use Rattle.od_model.specs.History.Legal.{state_after, IsNext, Legal}
 use Rattle.od_model.specs.History.Prints.{Opening, IsOpened, IsAccepted}
-use Rattle.od_model.proofs.Lists.{Each-append, Each-weaker, Each-both}
+use Rattle.od_text.proofs.Lists.{Each-append, Each-weaker, Each-both}
 use Rattle.od_model.proofs.Objects.Names.{Each-changed}
 use Rattle.od_model.proofs.Objects.Places.{name-itself}
 use Rattle.od_model.proofs.Histories.Steps.{state_after-start, state_after-snoc}

@@ -1,10 +1,10 @@
 -- Laws of orders and their entries.
 use Rattle.std.proofs.Common.{◌≡◌, ℕ, List, [], ◌∷◌, ◌++◌, refl, ap, ◌∙◌, subst, inl, inr, append_assoc, append-nil}
-use Rattle.od_model.specs.declared.history.Command.{Command}
-use Rattle.od_model.specs.declared.history.Command.TheVariants.{Step}
-use Rattle.od_model.specs.declared.script.Order.{Order}
-use Rattle.od_model.specs.declared.script.Order.TheVariants.{One, Run}
-use Rattle.od_model.specs.declared.history.Entry.{Entry}
+use Rattle.od_command.specs.declared.history.Command.{Command}
+use Rattle.od_command.specs.declared.history.Command.TheVariants.{Step}
+use Rattle.od_order.specs.declared.script.Order.{Order}
+use Rattle.od_order.specs.declared.script.Order.TheVariants.{One, Run}
+use Rattle.od_command.specs.declared.history.Entry.{Entry}
 use Rattle.od_model.specs.History.Orders.{GoesOn, IsGoing, Begun, Follows, Begins}
 
 pub Follows-one : (command : Command) (e : Entry) → e.command ≡ command → Follows (One command ∷ []) (e ∷ [])

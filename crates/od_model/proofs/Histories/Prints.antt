@@ -1,22 +1,22 @@
 -- A print of a legal history shows the rounds.
 use Rattle.std.proofs.Common.{◌≡◌, ℕ, List, ◌∷◌, ◌++◌, length, take, Option, Some, None, Ok, Err, Bool, true, false, if◌then◌else◌, refl, ap, eqb, subst}
-use Rattle.od_model.specs.declared.grammar.Head.{Head}
-use Rattle.od_model.specs.declared.history.Phase.{Phase}
-use Rattle.od_model.specs.declared.history.Reply.TheVariants.{Printed}
-use Rattle.od_model.specs.declared.history.Refusal.TheVariants.{Busy}
-use Rattle.od_model.specs.declared.history.Entry.{Entry}
-use Rattle.od_model.specs.declared.object.SessionState.{SessionState}
-use Rattle.od_model.specs.declared.object.OneThread.{OneThread}
-use Rattle.od_model.specs.Lists.{Each}
-use Rattle.od_model.specs.Rounds.Round.{joined}
-use Rattle.od_model.specs.Object.Parts.{is_named, session_of, phase_with}
+use Rattle.od_pattern.specs.declared.grammar.Head.{Head}
+use Rattle.od_extraction.specs.declared.phase.Phase.{Phase}
+use Rattle.od_command.specs.declared.history.Reply.TheVariants.{Printed}
+use Rattle.od_command.specs.declared.history.Refusal.TheVariants.{Busy}
+use Rattle.od_command.specs.declared.history.Entry.{Entry}
+use Rattle.od_session.specs.declared.object.SessionState.{SessionState}
+use Rattle.od_session.specs.declared.object.OneThread.{OneThread}
+use Rattle.od_text.specs.Lists.{Each}
+use Rattle.od_extraction.specs.Joined.{joined}
+use Rattle.od_session.specs.Parts.{is_named, session_of, phase_with}
 use Rattle.od_model.specs.Object.Replies.{held, held_in, held_as, reply_print}
 use Rattle.od_model.specs.History.Legal.{state_after, Legal}
 use Rattle.od_model.specs.History.Lines.{lines_of_session}
 use Rattle.od_model.specs.History.Prints.{IsOpened, ShowsRounds, IsAccepted, PrintsRounds}
-use Rattle.od_model.proofs.Lists.{Each-find, find-passes}
+use Rattle.od_text.proofs.Lists.{Each-find, find-passes}
 use Rattle.od_model.proofs.Objects.Names.{same-name}
-use Rattle.od_model.proofs.Rounds.Lying.{rounds-lie}
+use Rattle.od_matching.proofs.Rounds.Lying.{rounds-lie}
 use Rattle.od_model.proofs.Histories.Openings.{opening_of, IsOpenedSession, AreOpenedAfter, opened-after}
 use Rattle.od_model.proofs.Histories.Steps.{Legal-front, Legal-at}
 use Rattle.od_model.proofs.Histories.Sound.{IsSound, IsSoundSession, sound-after, grammar-is}

@@ -3,37 +3,38 @@ use Rattle.std.proofs.Common.{◌≡◌, ◌≢◌, ℕ, suc, ◌+◌, ◌≤◌
 use Rattle.std.proofs.lemmas.Bool.{or_parts}
 use Rattle.std.specs.List.{list_any}
 use Rattle.std.proofs.lemmas.List.{take-append-le}
-use Rattle.od_model.specs.declared.doc.Doc.{Doc}
-use Rattle.od_model.specs.declared.conllu.ConlluFault.{ConlluFault}
-use Rattle.od_model.specs.declared.grammar.Head.{Head}
-use Rattle.od_model.specs.declared.grammar.Grammar.{Grammar}
-use Rattle.od_model.specs.declared.mention.Mention.{Mention}
-use Rattle.od_model.specs.declared.mention.RoundResult.{RoundResult}
-use Rattle.od_model.specs.declared.mention.RoundResult.TheVariants.{Found}
-use Rattle.od_model.specs.declared.mention.RoundResult.TheVariants as outcome
-use Rattle.od_model.specs.declared.history.Phase.{Phase}
-use Rattle.od_model.specs.declared.history.Phase.TheVariants as stage
-use Rattle.od_model.specs.declared.history.Command.{Command}
-use Rattle.od_model.specs.declared.history.Command.TheVariants.{AddDoc, OpenSession, Step, Resume, Print, Release, Settle}
-use Rattle.od_model.specs.declared.history.Reply.{Reply}
-use Rattle.od_model.specs.declared.history.Reply.TheVariants.{Added, Opened, Resumed, Refused}
-use Rattle.od_model.specs.declared.history.Refusal.{Refusal}
-use Rattle.od_model.specs.declared.history.Refusal.TheVariants.{Duplicate, Full, NoRoom, Taken, BadLimit, Busy, NoGrammar}
-use Rattle.od_model.specs.declared.history.Entry.{Entry}
-use Rattle.od_model.specs.declared.object.SessionState.{SessionState}
-use Rattle.od_model.specs.declared.object.OneThread.{OneThread}
-use Rattle.od_model.specs.Grammars.Query.{grammar_of}
-use Rattle.od_model.specs.Document.Building.{document_of}
-use Rattle.od_model.specs.Document.Faults.{doc_fault}
-use Rattle.od_model.specs.Lists.{Each, EachPoint, points_after}
-use Rattle.od_model.specs.Rounds.Round.{round, rounds, one_more, with_found, joined}
-use Rattle.od_model.specs.Rounds.Phases.{phase, greatest_first, ends_empty}
-use Rattle.od_model.specs.Object.Parts.{nothing, has_doc, is_full, size_of, is_named, Distinct, session_of, has_session, head_of, is_known, grammar_at, phase_with, round_at}
+use Rattle.od_document.specs.declared.doc.Doc.{Doc}
+use Rattle.od_document.specs.declared.conllu.ConlluFault.{ConlluFault}
+use Rattle.od_pattern.specs.declared.grammar.Head.{Head}
+use Rattle.od_pattern.specs.declared.grammar.Grammar.{Grammar}
+use Rattle.od_extraction.specs.declared.mention.Mention.{Mention}
+use Rattle.od_extraction.specs.declared.mention.RoundResult.{RoundResult}
+use Rattle.od_extraction.specs.declared.mention.RoundResult.TheVariants.{Found}
+use Rattle.od_extraction.specs.declared.mention.RoundResult.TheVariants as outcome
+use Rattle.od_extraction.specs.declared.phase.Phase.{Phase}
+use Rattle.od_extraction.specs.declared.phase.Phase.TheVariants as stage
+use Rattle.od_command.specs.declared.history.Command.{Command}
+use Rattle.od_command.specs.declared.history.Command.TheVariants.{AddDoc, OpenSession, Step, Resume, Print, Release, Settle}
+use Rattle.od_command.specs.declared.history.Reply.{Reply}
+use Rattle.od_command.specs.declared.history.Reply.TheVariants.{Added, Opened, Resumed, Refused}
+use Rattle.od_command.specs.declared.history.Refusal.{Refusal}
+use Rattle.od_command.specs.declared.history.Refusal.TheVariants.{Duplicate, Full, NoRoom, Taken, BadLimit, Busy, NoGrammar}
+use Rattle.od_command.specs.declared.history.Entry.{Entry}
+use Rattle.od_session.specs.declared.object.SessionState.{SessionState}
+use Rattle.od_session.specs.declared.object.OneThread.{OneThread}
+use Rattle.od_language.specs.Query.{grammar_of}
+use Rattle.od_document.specs.Building.{document_of}
+use Rattle.od_document.specs.Faults.{doc_fault}
+use Rattle.od_text.specs.Lists.{Each, EachPoint, points_after}
+use Rattle.od_matching.specs.Rounds.Round.{round, rounds, one_more, with_found}
+use Rattle.od_extraction.specs.Joined.{joined}
+use Rattle.od_matching.specs.Rounds.Phases.{phase, greatest_first, ends_empty}
+use Rattle.od_session.specs.Parts.{nothing, has_doc, is_full, size_of, is_named, Distinct, session_of, has_session, head_of, is_known, grammar_at, phase_with, round_at}
 use Rattle.od_model.specs.Object.Replies.{reply_read, reply_headed, reply_step, reply_phase, reply_round, reply_resume, reply_unheld, reply_print, reply_release, held, held_in, held_as, Replies}
 use Rattle.od_model.specs.Object.Effects.{doc_made, change, found_of, stepped, opened, effect_of}
 use Rattle.od_model.specs.History.Legal.{state_after, IsNext, Legal}
 use Rattle.od_model.specs.History.Prints.{IsAccepted}
-use Rattle.od_model.proofs.Lists.{Each-append, Each-weaker, Each-find, EachPoint-snoc}
+use Rattle.od_text.proofs.Lists.{Each-append, Each-weaker, Each-find, EachPoint-snoc}
 use Rattle.od_model.proofs.Objects.Names.{session-unique, Each-change, Each-changed, Distinct-change}
 use Rattle.od_model.proofs.Histories.Steps.{state_after-start, state_after-snoc}
 

@@ -2,14 +2,14 @@
 use Rattle.std.proofs.Common.{◌≡◌, List, [], ◌∷◌, ◌++◌, flat_map, refl, ap, ◌∙◌, append-nil}
 use Rattle.std.proofs.lemmas.List.Sums.{fold-append}
 use Rattle.std.proofs.lemmas.List.Concat.{flat_map-append}
-use Rattle.od_model.specs.declared.grammar.Head.{Head}
-use Rattle.od_model.specs.declared.history.Entry.{Entry}
-use Rattle.od_model.specs.declared.object.OneThread.{OneThread}
-use Rattle.od_model.specs.Lists.{points, points_after}
+use Rattle.od_pattern.specs.declared.grammar.Head.{Head}
+use Rattle.od_command.specs.declared.history.Entry.{Entry}
+use Rattle.od_session.specs.declared.object.OneThread.{OneThread}
+use Rattle.od_text.specs.Lists.{points, points_after}
 use Rattle.od_model.specs.Object.Effects.{effect}
 use Rattle.od_model.specs.History.Legal.{state_after, IsNext, Legal}
 use Rattle.od_model.specs.History.Lines.{Lines, lines_at, entry_lines}
-use Rattle.od_model.proofs.Lists.{points-append, EachPoint-snoc, EachPoint-front, EachPoint-at}
+use Rattle.od_text.proofs.Lists.{points-append, EachPoint-snoc, EachPoint-front, EachPoint-at}
 
 module _ (start : OneThread) (heads : List Head) where
   pub state_after-start : state_after start heads [] ≡ start

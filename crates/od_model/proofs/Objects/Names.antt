@@ -4,11 +4,11 @@ use Rattle.std.specs.List.{list_any}
 use Rattle.std.proofs.lemmas.List.Folds.{list_any-append}
 use Rattle.std.proofs.lemmas.List.{map-append}
 use Rattle.std.proofs.lemmas.Slice.Eq.{bytes_eq-Decides}
-use Rattle.od_model.specs.declared.object.SessionState.{SessionState}
-use Rattle.od_model.specs.Lists.{Each, points_after, points}
-use Rattle.od_model.specs.Object.Parts.{is_named, Distinct, session_of}
+use Rattle.od_session.specs.declared.object.SessionState.{SessionState}
+use Rattle.od_text.specs.Lists.{Each, points_after, points}
+use Rattle.od_session.specs.Parts.{is_named, Distinct, session_of}
 use Rattle.od_model.specs.Object.Effects.{change, change_one}
-use Rattle.od_model.proofs.Lists.{Each-map, Each-weaker}
+use Rattle.od_text.proofs.Lists.{Each-map, Each-weaker}
 
 pub or_from_left : (a b : Bool) → a ≡ true → (a || b) ≡ true
 or_from_left true b h = refl

@@ -3,11 +3,11 @@ use Rattle.std.proofs.Common.{◌≡◌, ℕ, zero, suc, List, [], ◌∷◌, �
 use Rattle.std.specs.List.{list_any}
 use Rattle.std.proofs.lemmas.List.Folds.{list_any-append}
 use Rattle.std.proofs.lemmas.Slice.Eq.{bytes_eq-Decides}
-use Rattle.od_model.specs.declared.object.SessionState.{SessionState}
-use Rattle.od_model.specs.Lists.{Each, points_after}
-use Rattle.od_model.specs.Object.Parts.{is_named, Distinct, session_of}
+use Rattle.od_session.specs.declared.object.SessionState.{SessionState}
+use Rattle.od_text.specs.Lists.{Each, points_after}
+use Rattle.od_session.specs.Parts.{is_named, Distinct, session_of}
 use Rattle.od_model.specs.Object.Effects.{change}
-use Rattle.od_model.proofs.Lists.{EachPoint-snoc}
+use Rattle.od_text.proofs.Lists.{EachPoint-snoc}
 use Rattle.od_model.proofs.Objects.Names.{behind, or_from_left, or_from_right}
 
 -- a name is the same as itself

@@ -1,9 +1,9 @@
 -- Which histories are legal.
 use Rattle.std.specs.Prelude.{◌≡◌, ℕ, ◌+◌, List, length, filter, fold, ◌==◌}
-use Rattle.od_model.specs.declared.grammar.Head.{Head}
-use Rattle.od_model.specs.declared.history.Entry.{Entry}
-use Rattle.od_model.specs.declared.object.OneThread.{OneThread}
-use Rattle.od_model.specs.Lists.{EachPoint}
+use Rattle.od_pattern.specs.declared.grammar.Head.{Head}
+use Rattle.od_command.specs.declared.history.Entry.{Entry}
+use Rattle.od_session.specs.declared.object.OneThread.{OneThread}
+use Rattle.od_text.specs.Lists.{EachPoint}
 use Rattle.od_model.specs.Object.Effects.{effect}
 use Rattle.od_model.specs.Object.Replies.{Replies}
 

@@ -1,19 +1,19 @@
 -- The lines of a history.
 use Rattle.std.specs.Prelude.{ℕ, List, [], ◌++◌, flat_map, Option, Some, None}
-use Rattle.od_model.specs.declared.doc.Doc.{Doc}
-use Rattle.od_model.specs.declared.grammar.Head.{Head}
-use Rattle.od_model.specs.declared.history.Command.{Command}
-use Rattle.od_model.specs.declared.history.Command.TheVariants.{Print}
-use Rattle.od_model.specs.declared.history.Reply.{Reply}
-use Rattle.od_model.specs.declared.history.Reply.TheVariants.{Printed}
-use Rattle.od_model.specs.declared.history.Entry.{Entry}
-use Rattle.od_model.specs.declared.object.SessionState.{SessionState}
-use Rattle.od_model.specs.declared.object.OneThread.{OneThread}
-use Rattle.od_model.specs.Lists.{points}
-use Rattle.od_model.specs.Rounds.Round.{joined}
-use Rattle.od_model.specs.Object.Parts.{session_of}
-use Rattle.od_model.specs.Lines.Entries.{own_line}
-use Rattle.od_model.specs.Lines.Mentions.{mention_line}
+use Rattle.od_document.specs.declared.doc.Doc.{Doc}
+use Rattle.od_pattern.specs.declared.grammar.Head.{Head}
+use Rattle.od_command.specs.declared.history.Command.{Command}
+use Rattle.od_command.specs.declared.history.Command.TheVariants.{Print}
+use Rattle.od_command.specs.declared.history.Reply.{Reply}
+use Rattle.od_command.specs.declared.history.Reply.TheVariants.{Printed}
+use Rattle.od_command.specs.declared.history.Entry.{Entry}
+use Rattle.od_session.specs.declared.object.SessionState.{SessionState}
+use Rattle.od_session.specs.declared.object.OneThread.{OneThread}
+use Rattle.od_text.specs.Lists.{points}
+use Rattle.od_extraction.specs.Joined.{joined}
+use Rattle.od_session.specs.Parts.{session_of}
+use Rattle.od_command.specs.Lines.Entries.{own_line}
+use Rattle.od_command.specs.Lines.Mentions.{mention_line}
 use Rattle.od_model.specs.History.Legal.{state_after}
 
 -- one line for each mention of a session, in the order in which the rounds added them

@@ -1,13 +1,13 @@
 -- How one caller's entries unfold its orders.
 use Rattle.std.specs.Prelude.{◌≡◌, List, [], ◌∷◌, ◌++◌, ◌⊎◌, ℕ}
-use Rattle.od_model.specs.declared.history.Phase.TheVariants.{Going}
-use Rattle.od_model.specs.declared.history.Command.{Command}
-use Rattle.od_model.specs.declared.history.Command.TheVariants.{Step}
-use Rattle.od_model.specs.declared.script.Order.{Order}
-use Rattle.od_model.specs.declared.script.Order.TheVariants.{One, Run}
-use Rattle.od_model.specs.declared.history.Reply.{Reply}
-use Rattle.od_model.specs.declared.history.Reply.TheVariants.{Stepped}
-use Rattle.od_model.specs.declared.history.Entry.{Entry}
+use Rattle.od_extraction.specs.declared.phase.Phase.TheVariants.{Going}
+use Rattle.od_command.specs.declared.history.Command.{Command}
+use Rattle.od_command.specs.declared.history.Command.TheVariants.{Step}
+use Rattle.od_order.specs.declared.script.Order.{Order}
+use Rattle.od_order.specs.declared.script.Order.TheVariants.{One, Run}
+use Rattle.od_command.specs.declared.history.Reply.{Reply}
+use Rattle.od_command.specs.declared.history.Reply.TheVariants.{Stepped}
+use Rattle.od_command.specs.declared.history.Entry.{Entry}
 
 -- a run goes on after this reply
 abbrev pub GoesOn : Reply → Type 0

@@ -1,24 +1,25 @@
 -- What a print shows.
 use Rattle.std.specs.Prelude.{◌≡◌, ◌≢◌, ◌⊎◌, ℕ, List, ◌∷◌, ◌++◌, length, take, flat_map, Some}
-use Rattle.od_model.specs.declared.doc.Doc.{Doc}
-use Rattle.od_model.specs.declared.grammar.Head.{Head}
-use Rattle.od_model.specs.declared.grammar.Grammar.{Grammar}
-use Rattle.od_model.specs.declared.grammar.GrammarKind.{GrammarKind}
-use Rattle.od_model.specs.declared.mention.Mention.{Mention}
-use Rattle.od_model.specs.declared.history.Phase.{Phase}
-use Rattle.od_model.specs.declared.history.Phase.TheVariants.{Finished}
-use Rattle.od_model.specs.declared.history.Command.TheVariants.{OpenSession, Print}
-use Rattle.od_model.specs.declared.history.Reply.TheVariants.{Opened, Printed}
-use Rattle.od_model.specs.declared.history.Entry.{Entry}
-use Rattle.od_model.specs.declared.object.SessionState.{SessionState}
-use Rattle.od_model.specs.declared.object.OneThread.{OneThread}
-use Rattle.od_model.specs.Grammars.Query.{grammar_of}
-use Rattle.od_model.specs.Lists.{Each, EachPoint}
-use Rattle.od_model.specs.Matching.Spans.{LiesIn}
-use Rattle.od_model.specs.Rounds.Round.{rounds, joined}
-use Rattle.od_model.specs.Rounds.Phases.{phase, greatest_first}
-use Rattle.od_model.specs.Object.Parts.{head_of, session_of}
-use Rattle.od_model.specs.Lines.Mentions.{mention_line}
+use Rattle.od_document.specs.declared.doc.Doc.{Doc}
+use Rattle.od_pattern.specs.declared.grammar.Head.{Head}
+use Rattle.od_pattern.specs.declared.grammar.Grammar.{Grammar}
+use Rattle.od_pattern.specs.declared.grammar.GrammarKind.{GrammarKind}
+use Rattle.od_extraction.specs.declared.mention.Mention.{Mention}
+use Rattle.od_extraction.specs.declared.phase.Phase.{Phase}
+use Rattle.od_extraction.specs.declared.phase.Phase.TheVariants.{Finished}
+use Rattle.od_command.specs.declared.history.Command.TheVariants.{OpenSession, Print}
+use Rattle.od_command.specs.declared.history.Reply.TheVariants.{Opened, Printed}
+use Rattle.od_command.specs.declared.history.Entry.{Entry}
+use Rattle.od_session.specs.declared.object.SessionState.{SessionState}
+use Rattle.od_session.specs.declared.object.OneThread.{OneThread}
+use Rattle.od_language.specs.Query.{grammar_of}
+use Rattle.od_text.specs.Lists.{Each, EachPoint}
+use Rattle.od_extraction.specs.Spans.{LiesIn}
+use Rattle.od_matching.specs.Rounds.Round.{rounds}
+use Rattle.od_extraction.specs.Joined.{joined}
+use Rattle.od_matching.specs.Rounds.Phases.{phase, greatest_first}
+use Rattle.od_session.specs.Parts.{head_of, session_of}
+use Rattle.od_command.specs.Lines.Mentions.{mention_line}
 use Rattle.od_model.specs.History.Legal.{state_after}
 use Rattle.od_model.specs.History.Lines.{lines_before}
 

@@ -1,19 +1,19 @@
 -- What the one-thread object is after a reply. An effect reads the reply and makes no test; a refusal changes nothing.
 use Rattle.std.specs.Prelude.{ℕ, List, [], ◌∷◌, ◌++◌, map, Option, Some, None, if◌then◌else◌, bytes_eq}
-use Rattle.od_model.specs.declared.doc.Doc.{Doc}
-use Rattle.od_model.specs.declared.grammar.Head.{Head}
-use Rattle.od_model.specs.declared.mention.Mention.{Mention}
-use Rattle.od_model.specs.declared.mention.RoundResult.{RoundResult}
-use Rattle.od_model.specs.declared.mention.RoundResult.TheVariants.{Found, Crowded, TooMany}
-use Rattle.od_model.specs.declared.history.Command.{Command}
-use Rattle.od_model.specs.declared.history.Command.TheVariants.{AddDoc, OpenSession, Step, Resume, Release}
-use Rattle.od_model.specs.declared.history.Reply.{Reply}
-use Rattle.od_model.specs.declared.history.Reply.TheVariants.{Added, Opened, Stepped, Resumed, Released}
-use Rattle.od_model.specs.declared.history.Entry.{Entry}
-use Rattle.od_model.specs.declared.object.SessionState.{SessionState}
-use Rattle.od_model.specs.declared.object.OneThread.{OneThread}
-use Rattle.od_model.specs.Document.Building.{document_of}
-use Rattle.od_model.specs.Object.Parts.{head_of, round_at}
+use Rattle.od_document.specs.declared.doc.Doc.{Doc}
+use Rattle.od_pattern.specs.declared.grammar.Head.{Head}
+use Rattle.od_extraction.specs.declared.mention.Mention.{Mention}
+use Rattle.od_extraction.specs.declared.mention.RoundResult.{RoundResult}
+use Rattle.od_extraction.specs.declared.mention.RoundResult.TheVariants.{Found, Crowded, TooMany}
+use Rattle.od_command.specs.declared.history.Command.{Command}
+use Rattle.od_command.specs.declared.history.Command.TheVariants.{AddDoc, OpenSession, Step, Resume, Release}
+use Rattle.od_command.specs.declared.history.Reply.{Reply}
+use Rattle.od_command.specs.declared.history.Reply.TheVariants.{Added, Opened, Stepped, Resumed, Released}
+use Rattle.od_command.specs.declared.history.Entry.{Entry}
+use Rattle.od_session.specs.declared.object.SessionState.{SessionState}
+use Rattle.od_session.specs.declared.object.OneThread.{OneThread}
+use Rattle.od_document.specs.Building.{document_of}
+use Rattle.od_session.specs.Parts.{head_of, round_at}
 
 -- the document, where the bytes are one
 abbrev pub doc_made : Option Doc → List Doc

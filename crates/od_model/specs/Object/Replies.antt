@@ -1,25 +1,25 @@
 -- What the one-thread object answers to a command. The tests of each command stand in their order.
 use Rattle.std.specs.Prelude.{◌≡◌, ℕ, ◌+◌, ◌≤◌, List, [], ◌∷◌, ◌++◌, length, sum, Option, Some, None, Result, Ok, Err, ◌||◌, if◌then◌else◌, ◌==◌, nat_lt, nat_le}
-use Rattle.od_model.specs.declared.conllu.ConlluFault.{ConlluFault}
-use Rattle.od_model.specs.declared.grammar.Head.{Head}
-use Rattle.od_model.specs.declared.mention.RoundResult.{RoundResult}
-use Rattle.od_model.specs.declared.mention.RoundResult.TheVariants.{Found}
-use Rattle.od_model.specs.declared.mention.RoundResult.TheVariants as outcome
-use Rattle.od_model.specs.declared.history.Phase.{Phase}
-use Rattle.od_model.specs.declared.history.Phase.TheVariants as stage
-use Rattle.od_model.specs.declared.history.Command.{Command}
-use Rattle.od_model.specs.declared.history.Command.TheVariants.{AddDoc, OpenSession, Step, Resume, Print, Release, Settle}
-use Rattle.od_model.specs.declared.history.Reply.{Reply}
-use Rattle.od_model.specs.declared.history.Reply.TheVariants.{Added, Opened, Stepped, Resumed, Printed, Released, Settled, Refused}
-use Rattle.od_model.specs.declared.history.Refusal.{Refusal}
-use Rattle.od_model.specs.declared.history.Refusal.TheVariants.{BadDoc, Duplicate, Full, NoGrammar, BadLimit, Taken, NoRoom, NoSession, Busy, NotHeld, Finished, AtLimit, Crowded, TooMany}
-use Rattle.od_model.specs.declared.object.SessionState.{SessionState}
-use Rattle.od_model.specs.declared.object.OneThread.{OneThread}
-use Rattle.od_model.specs.Document.Faults.{doc_fault}
-use Rattle.od_model.specs.Lists.{Each}
-use Rattle.od_model.specs.Rounds.Round.{joined}
+use Rattle.od_document.specs.declared.conllu.ConlluFault.{ConlluFault}
+use Rattle.od_pattern.specs.declared.grammar.Head.{Head}
+use Rattle.od_extraction.specs.declared.mention.RoundResult.{RoundResult}
+use Rattle.od_extraction.specs.declared.mention.RoundResult.TheVariants.{Found}
+use Rattle.od_extraction.specs.declared.mention.RoundResult.TheVariants as outcome
+use Rattle.od_extraction.specs.declared.phase.Phase.{Phase}
+use Rattle.od_extraction.specs.declared.phase.Phase.TheVariants as stage
+use Rattle.od_command.specs.declared.history.Command.{Command}
+use Rattle.od_command.specs.declared.history.Command.TheVariants.{AddDoc, OpenSession, Step, Resume, Print, Release, Settle}
+use Rattle.od_command.specs.declared.history.Reply.{Reply}
+use Rattle.od_command.specs.declared.history.Reply.TheVariants.{Added, Opened, Stepped, Resumed, Printed, Released, Settled, Refused}
+use Rattle.od_command.specs.declared.history.Refusal.{Refusal}
+use Rattle.od_command.specs.declared.history.Refusal.TheVariants.{BadDoc, Duplicate, Full, NoGrammar, BadLimit, Taken, NoRoom, NoSession, Busy, NotHeld, Finished, AtLimit, Crowded, TooMany}
+use Rattle.od_session.specs.declared.object.SessionState.{SessionState}
+use Rattle.od_session.specs.declared.object.OneThread.{OneThread}
+use Rattle.od_document.specs.Faults.{doc_fault}
+use Rattle.od_text.specs.Lists.{Each}
+use Rattle.od_extraction.specs.Joined.{joined}
 use Rattle.od_model.specs.Object.Due.{due}
-use Rattle.od_model.specs.Object.Parts.{has_doc, size_of, sentence_count, is_full, session_of, has_session, head_of, is_known, phase_with, round_at}
+use Rattle.od_session.specs.Parts.{has_doc, size_of, sentence_count, is_full, session_of, has_session, head_of, is_known, phase_with, round_at}
 
 -- bytes with a fault, or a document of their length
 abbrev pub reply_read : OneThread → List ℕ → List ℕ → Option ConlluFault → Reply

@@ -1,13 +1,13 @@
 -- The clients of a script and their entries.
 use Rattle.std.specs.Prelude.{◌≡◌, ℕ, ◌+◌, ◌≤◌, List, length, slice_get, Some, Bool, true, false}
 use Rattle.std.specs.List.{list_any}
-use Rattle.od_model.specs.declared.history.Reply.{Reply}
-use Rattle.od_model.specs.declared.history.Reply.TheVariants.{Refused}
-use Rattle.od_model.specs.declared.history.Entry.{Entry}
-use Rattle.od_model.specs.declared.script.Order.{Order}
-use Rattle.od_model.specs.declared.script.Script.{Script}
-use Rattle.od_model.specs.Lists.{Each}
-use Rattle.od_model.specs.Object.Parts.{nothing}
+use Rattle.od_command.specs.declared.history.Reply.{Reply}
+use Rattle.od_command.specs.declared.history.Reply.TheVariants.{Refused}
+use Rattle.od_command.specs.declared.history.Entry.{Entry}
+use Rattle.od_order.specs.declared.script.Order.{Order}
+use Rattle.od_order.specs.declared.script.Script.{Script}
+use Rattle.od_text.specs.Lists.{Each}
+use Rattle.od_session.specs.Parts.{nothing}
 use Rattle.od_model.specs.History.Legal.{Legal, mine}
 use Rattle.od_model.specs.History.Orders.{Begins}
 

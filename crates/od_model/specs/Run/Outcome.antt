@@ -2,17 +2,17 @@
 use Rattle.std.specs.Prelude.{◌≡◌, ◌⊎◌, ℕ, ◌<◌, List, [], ◌∷◌, ◌++◌, length, Option, Some, None, true, false}
 use Rattle.std.specs.Option.{IfSome}
 use Rattle.std.specs.Io.KnownBytes.{Appends}
-use Rattle.od_model.specs.declared.grammar.Head.{Head}
-use Rattle.od_model.specs.declared.history.Entry.{Entry}
-use Rattle.od_model.specs.declared.script.Script.{Script}
+use Rattle.od_pattern.specs.declared.grammar.Head.{Head}
+use Rattle.od_command.specs.declared.history.Entry.{Entry}
+use Rattle.od_order.specs.declared.script.Script.{Script}
 use Rattle.od_model.specs.declared.status.Status.{Status}
 use Rattle.od_model.specs.declared.status.Status.TheVariants.{Done, Refused, Usage, NoScript, ReadFault, WriteFault, NoMemory}
-use Rattle.od_model.specs.Object.Parts.{nothing}
+use Rattle.od_session.specs.Parts.{nothing}
 use Rattle.od_model.specs.History.Legal.{state_after}
 use Rattle.od_model.specs.History.Lines.{entry_lines, Lines}
 use Rattle.od_model.specs.History.Orders.{Follows}
 use Rattle.od_model.specs.History.Prints.{PrintsRounds}
-use Rattle.od_model.specs.Script.Thin.{script_of}
+use Rattle.od_order.specs.Thin.{script_of}
 use Rattle.od_model.specs.Run.Clients.{EachClient, Runs, has_refusal}
 
 -- the bytes that a source had are this script, where it tells them

@@ -1,12 +1,12 @@
 -- How far a run has come, as the contracts of its parts speak of it.
 use Rattle.std.specs.Prelude.{◌≡◌, ℕ, List, [], ◌∷◌, ◌++◌, Option}
-use Rattle.od_model.specs.declared.grammar.Head.{Head}
-use Rattle.od_model.specs.declared.history.Command.{Command}
-use Rattle.od_model.specs.declared.history.Entry.{Entry}
-use Rattle.od_model.specs.declared.script.Order.{Order}
-use Rattle.od_model.specs.declared.object.OneThread.{OneThread}
-use Rattle.od_model.specs.Lists.{Each}
-use Rattle.od_model.specs.Object.Parts.{nothing}
+use Rattle.od_pattern.specs.declared.grammar.Head.{Head}
+use Rattle.od_command.specs.declared.history.Command.{Command}
+use Rattle.od_command.specs.declared.history.Entry.{Entry}
+use Rattle.od_order.specs.declared.script.Order.{Order}
+use Rattle.od_session.specs.declared.object.OneThread.{OneThread}
+use Rattle.od_text.specs.Lists.{Each}
+use Rattle.od_session.specs.Parts.{nothing}
 use Rattle.od_model.specs.History.Legal.{state_after, Legal}
 use Rattle.od_model.specs.History.Orders.{IsGoing}
 use Rattle.od_model.specs.Run.Outcome.{IsCutShort, IsWritten}

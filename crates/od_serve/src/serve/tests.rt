@@ -1,14 +1,14 @@
 //! The top call over sources and sinks in memory, and scripts of several clients, which no input asks for yet.
 ghost use Rattle.std.specs.Prelude.{◌≤◌, length, IfOk};
-ghost use Rattle.od_model.specs.Script.Runnable.{IsRunnable};
+ghost use Rattle.od_order.specs.Runnable.{IsRunnable};
 
 use super::{Ended, odinson, run_script};
 use crate::examples::{Ask, DOGS, command, head};
 use od_io::{MemSink, MemSource};
-use od_model::list::List;
-use od_model::script::{Order, Script};
 use od_model::status::Status;
-use od_model::text::{Bytes, NoMemory, Text};
+use od_order::script::{Order, Script};
+use od_text::list::List;
+use od_text::text::{Bytes, NoMemory, Text};
 use std::alloc::{AllocError, Global};
 use std::test::Fail;
 

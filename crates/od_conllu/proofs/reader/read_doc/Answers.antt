@@ -1,9 +1,9 @@
 use Rattle.std.proofs.Common.{length, map, ap, ◌∙◌, arith, refl}
-use Rattle.od_model.specs.Document.Lines.{without_mark}
-use Rattle.od_model.specs.Document.Reading.{shown}
-use Rattle.od_model.specs.Document.Weight.{weight_of}
-use Rattle.od_model.proofs.Document.Existence.{Reads-document_of}
-use Rattle.od_model.proofs.Document.Weight.{weight_short, mark_short}
+use Rattle.od_document.specs.Lines.{without_mark}
+use Rattle.od_document.specs.Reading.{shown}
+use Rattle.od_document.specs.Weight.{weight_of}
+use Rattle.od_document.proofs.Existence.{Reads-document_of}
+use Rattle.od_document.proofs.Weight.{weight_short, mark_short}
 use Rattle.od_conllu.proofs.reader.read_doc.Goals as goal
 
 pub invariant_of-result : goal.invariant_of-result

@@ -1,8 +1,8 @@
 use Rattle.std.proofs.Common.{rules, ◌+◌, ◌∷◌, [], List, subst, sym, arith, ℕ}
 use Rattle.std.specs.Str.Lines.{lines, lines_of_parts}
 use Rattle.std.proofs.lemmas.Result.{err_from_is_err_and}
-use Rattle.od_model.specs.declared.sentence.Sentence.{Sentence}
-use Rattle.od_model.specs.Document.Lines.{Line, blocks_of, lines_of, numbered}
+use Rattle.od_document.specs.declared.sentence.Sentence.{Sentence}
+use Rattle.od_document.specs.Lines.{Line, blocks_of, lines_of, numbered}
 use Rattle.od_conllu.specs.Reached.{Reaches}
 use Rattle.od_conllu.proofs.Lines.{lines_last, numbered_more}
 use Rattle.od_conllu.proofs.Reached.{reaches_none, with_rest}

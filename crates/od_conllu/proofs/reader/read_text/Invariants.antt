@@ -2,7 +2,7 @@ use Rattle.std.proofs.Common.{◌+◌, ◌≤◌, length}
 use denote.Shadow.{shadow}
 use denote.Text.{Utf8}
 use Rattle.std.specs.Str.Lines.{lines}
-use Rattle.od_model.specs.Document.Lines.{numbered, blocks_of}
+use Rattle.od_document.specs.Lines.{numbered, blocks_of}
 use Rattle.od_conllu.specs.Reached.{Reaches}
 use Rattle.od_conllu.proofs.reader.read_text.Given as goal
 

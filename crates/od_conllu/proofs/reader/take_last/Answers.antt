@@ -2,7 +2,7 @@ use Rattle.std.proofs.Common.{List, [], ◌∷◌, subst, sym, eqb-true}
 use Rattle.std.proofs.lemmas.Bool.{eqb-false}
 use Rattle.std.proofs.lemmas.Result.{err_from_is_err_and}
 use Rattle.std.specs.Str.Lines.{lines_of_parts}
-use Rattle.od_model.specs.Document.Lines.{Line, numbered}
+use Rattle.od_document.specs.Lines.{Line, numbered}
 use Rattle.od_conllu.specs.Reached.{Reaches}
 use Rattle.od_conllu.proofs.Lines.{no_last, one_last}
 use Rattle.od_conllu.proofs.Reached.{with_rest}

@@ -1,7 +1,7 @@
 use Rattle.std.proofs.Common.{◌≡◌, length}
 use denote.Shadow.{shadow}
 use denote.Text.{Utf8}
-use Rattle.od_model.specs.Document.Columns.{misc_value}
+use Rattle.od_document.specs.Columns.{misc_value}
 use Rattle.od_conllu.proofs.row.misc_item.Given as goal
 
 abbrev pub invariant-loop-first : goal.invariant-loop-first

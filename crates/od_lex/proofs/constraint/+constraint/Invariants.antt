@@ -1,5 +1,5 @@
 use Rattle.std.proofs.Common.{◌≡◌, ◌+◌, ◌-◌, ◌*◌, ◌<◌, drop, length, Option, None}
-use Rattle.od_model.specs.declared.pattern.Constraint.{Constraint}
+use Rattle.od_pattern.specs.declared.pattern.Constraint.{Constraint}
 use Rattle.od_lex.specs.Machine.{Open, operand, after, run, NoAnd}
 use Rattle.od_lex.proofs.constraint.+constraint.Given as goal
 

@@ -1,5 +1,5 @@
 use Rattle.std.proofs.Common.{◌≡◌, ◌≤◌}
-use Rattle.od_model.specs.Pattern.Depth.{depth_before}
+use Rattle.od_language.specs.Depth.{depth_before}
 use Rattle.od_lex.proofs.constraint.depth_at.Given as goal
 
 abbrev pub invariant-loop-x : goal.invariant-loop-x

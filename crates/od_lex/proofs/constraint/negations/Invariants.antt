@@ -1,5 +1,5 @@
 use Rattle.std.proofs.Common.{◌≡◌, ℕ, ◌+◌, ◌-◌, drop, length, Option}
-use Rattle.od_model.specs.declared.pattern.Constraint.{Constraint}
+use Rattle.od_pattern.specs.declared.pattern.Constraint.{Constraint}
 use Rattle.od_lex.specs.Machine.{Open, operand, run}
 use Rattle.od_lex.proofs.constraint.negations.Given as goal
 

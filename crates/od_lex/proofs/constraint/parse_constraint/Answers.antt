@@ -1,6 +1,6 @@
 use Rattle.od_lex.proofs.Answers.{parsed_value, parsed_fault, only_value, only_fault, one_answer, written_read}
 use Rattle.std.proofs.Common.{length}
-use Rattle.od_model.specs.Pattern.Written.{written}
+use Rattle.od_language.specs.Written.{written}
 use Rattle.od_lex.proofs.constraint.parse_constraint.Goals as goal
 
 pub returns-clause-value : goal.returns-clause-value

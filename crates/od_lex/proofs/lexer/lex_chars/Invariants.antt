@@ -1,7 +1,7 @@
 use Rattle.std.proofs.Common.{◌≡◌, ℕ, ◌+◌, ◌-◌, ◌≤◌, List, ◌++◌, drop, length, Option}
-use Rattle.od_model.specs.declared.lexeme.Lexeme.{Lexeme}
-use Rattle.od_model.specs.declared.lexeme.Miss.{Miss}
-use Rattle.od_model.specs.Pattern.Lexing.{size_of as bytes}
+use Rattle.od_language.specs.declared.lexeme.Lexeme.{Lexeme}
+use Rattle.od_language.specs.declared.lexeme.Miss.{Miss}
+use Rattle.od_language.specs.Lexing.{size_of as bytes}
 use Rattle.od_lex.specs.Reading.{Formed}
 use Rattle.od_lex.proofs.lexer.lex_chars.Given as goal
 

@@ -1,5 +1,5 @@
 use Rattle.std.proofs.Common.{◌≡◌, take}
-use Rattle.od_model.specs.Pattern.Lexing.{size_of as bytes}
+use Rattle.od_language.specs.Lexing.{size_of as bytes}
 use Rattle.od_lex.proofs.lexer.size_of.Given as goal
 
 abbrev pub invariant-loop-c : goal.invariant-loop-c

@@ -1,6 +1,6 @@
 use Rattle.std.proofs.Common.{◌≡◌, ◌+◌, ◌-◌, ◌≤◌, drop, length}
 use Rattle.std.specs.List.{prefix_len}
-use Rattle.od_model.specs.Pattern.Identifier.{in_identifier}
+use Rattle.od_language.specs.Identifier.{in_identifier}
 use Rattle.od_lex.proofs.scan.name_end.Given as goal
 
 abbrev pub invariant-loop-c : goal.invariant-loop-c

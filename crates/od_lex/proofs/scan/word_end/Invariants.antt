@@ -1,6 +1,6 @@
 use Rattle.std.proofs.Common.{◌≡◌, ◌+◌, ◌-◌, ◌≤◌, drop, length}
 use Rattle.std.specs.List.{prefix_len}
-use Rattle.od_model.specs.Pattern.Spelling.{in_word}
+use Rattle.od_language.specs.Spelling.{in_word}
 use Rattle.od_lex.proofs.scan.word_end.Given as goal
 
 abbrev pub invariant-loop-c : goal.invariant-loop-c

@@ -1,6 +1,6 @@
 use Rattle.std.proofs.Common.{ap, ◌∙◌, refl}
-use Rattle.od_model.specs.Grammars.Query.{is_word_query}
-use Rattle.od_model.proofs.Rounds.Queries.{grammar_of-query}
+use Rattle.od_language.specs.Query.{is_word_query}
+use Rattle.od_session.proofs.Queries.{grammar_of-query}
 use Rattle.od_serve.proofs.examples.head.Goals as goal
 
 pub returns : goal.returns

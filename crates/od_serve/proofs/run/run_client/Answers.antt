@@ -2,7 +2,7 @@ use Rattle.std.proofs.Common.{◌≡◌, ◌∙◌, ◌+◌, List, [], ◌∷◌
 use Rattle.std.proofs.lemmas.List.{take_more, take-append-drop, map-id}
 use Rattle.std.proofs.lemmas.Iterator.Adapters.{YieldsList-from_vec}
 use Rattle.std.proofs.lemmas.Iterator.Consumers.{YieldsList-turn, YieldsList-so_far}
-use Rattle.od_model.specs.declared.script.Order.{Order}
+use Rattle.od_order.specs.declared.script.Order.{Order}
 use Rattle.od_model.specs.History.Orders.{Begins}
 use Rattle.od_serve.specs.Running.Told.{GoesFurther}
 use Rattle.od_serve.proofs.run.run_client.Goals as goal

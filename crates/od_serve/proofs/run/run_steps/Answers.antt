@@ -1,5 +1,5 @@
 use Rattle.std.proofs.Common.{◌+◌, [], ◌∷◌, ◌++◌, subst, arith}
-use Rattle.od_model.specs.declared.history.Command.TheVariants.{Step}
+use Rattle.od_command.specs.declared.history.Command.TheVariants.{Step}
 use Rattle.od_model.specs.History.Orders.{GoesOn}
 use Rattle.od_model.proofs.Histories.Climbs.{list_count-few}
 use Rattle.od_serve.specs.Running.Told.{IsReached, OneMore, AtMostOne}

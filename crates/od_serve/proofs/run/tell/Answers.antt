@@ -1,7 +1,7 @@
 use Rattle.std.proofs.Common.{◌≡◌, ◌∙◌, [], ◌∷◌, ◌++◌, refl, sym, ap}
 use Rattle.std.specs.Io.KnownBytes.{Appends}
 use Rattle.od_io.specs.Streams.Writing.{AppendsProperPrefix}
-use Rattle.od_model.specs.declared.history.Entry.{Entry}
+use Rattle.od_command.specs.declared.history.Entry.{Entry}
 use Rattle.od_model.specs.Object.Effects.{effect}
 use Rattle.od_model.specs.History.Lines.{entry_lines}
 use Rattle.od_serve.specs.Running.Told.{one}

@@ -1,9 +1,9 @@
 use Rattle.std.proofs.Common.{List, sym, subst, ap, ◌∙◌}
-use Rattle.od_model.specs.declared.grammar.Head.{Head}
-use Rattle.od_model.specs.Lists.{Each}
-use Rattle.od_model.specs.Object.Parts.{nothing}
+use Rattle.od_pattern.specs.declared.grammar.Head.{Head}
+use Rattle.od_text.specs.Lists.{Each}
+use Rattle.od_session.specs.Parts.{nothing}
 use Rattle.od_model.specs.History.Legal.{Legal}
-use Rattle.od_model.specs.Script.Runnable.{IsQuery}
+use Rattle.od_order.specs.Runnable.{IsQuery}
 use Rattle.od_model.specs.Run.Clients.{has_refusal}
 use Rattle.od_model.specs.Run.Outcome.{IsCutShort}
 use Rattle.od_serve.specs.Running.Told.{IsTold}

@@ -1,9 +1,9 @@
 use Rattle.std.proofs.Common.{◌≡◌, List, length, refl, sym, ap, ◌∙◌, None, arith}
 use Rattle.std.specs.Option.{option_map}
-use Rattle.od_model.specs.Document.Words.{WordLine}
-use Rattle.od_model.specs.Document.Faults.{heads_fault}
+use Rattle.od_document.specs.Words.{WordLine}
+use Rattle.od_document.specs.Faults.{heads_fault}
 use Rattle.od_conllu.specs.Drafts.{IsDraftOf}
-use Rattle.od_model.proofs.Document.Existence.{sentence_keeps}
+use Rattle.od_document.proofs.Existence.{sentence_keeps}
 use Rattle.od_conllu.proofs.Drafts.{heads_told, range_fault, IsDraftOf-count}
 use Rattle.od_conllu.proofs.draft.Draft.end.Goals as goal
 

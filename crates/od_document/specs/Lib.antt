@@ -1,0 +1,10 @@
+-- The definitions of this crate.
+pub mod Building
+pub mod Columns
+pub mod Edges
+pub mod Faults
+pub mod Laws
+pub mod Lines
+pub mod Reading
+pub mod Weight
+pub mod Words

@@ -1,0 +1,24 @@
+-- Which document some bytes are.
+use Rattle.std.specs.Prelude.{◌≡◌, ℕ, List, length, map, None}
+use Rattle.od_document.specs.declared.doc.Doc.{Doc}
+use Rattle.od_document.specs.declared.sentence.Sentence.{Sentence}
+use Rattle.od_document.specs.declared.token.Token.{Token}
+use Rattle.od_document.specs.declared.token.Edge.{Edge}
+use Rattle.od_document.specs.Lines.{without_mark, blocks_of}
+use Rattle.od_document.specs.Words.{WordLine, token_of, edges_from}
+use Rattle.od_document.specs.Faults.{doc_fault, sentences_in}
+
+-- the tokens and edges that the word lines of a sentence give
+abbrev pub parts_of : List WordLine → List Token × List Edge
+parts_of ws = (map token_of ws, edges_from 0 ws)
+
+-- the tokens and edges of a sentence
+abbrev pub shown : Sentence → List Token × List Edge
+shown s = (s.tokens, s.edges)
+
+-- the bytes are read as the document of this name
+pub record Reads (name bytes : List ℕ) (doc : Doc) : Type 0 where
+  pub faultless : doc_fault bytes ≡ None
+  pub name_is : doc.name ≡ name
+  pub size_is : doc.size ≡ length bytes
+  pub sentences_are : map shown doc.sentences ≡ map parts_of (sentences_in (blocks_of (without_mark bytes)))

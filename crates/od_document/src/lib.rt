@@ -1,0 +1,8 @@
+//! Documents: their types, what can be wrong with them, and the laws of their reading.
+#![tactic(auto)]
+
+pub mod conllu;
+pub mod doc;
+pub mod document_laws;
+pub mod sentence;
+pub mod token;

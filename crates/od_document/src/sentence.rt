@@ -1,0 +1,17 @@
+//! Sentences.
+ghost use Rattle.std.specs.Prelude.{◌<◌, ◌≤◌, length};
+ghost use Rattle.od_document.specs.Edges.{EndsWithin, AreDistinct};
+
+use crate::token::{Edge, Token};
+use od_text::list::List;
+
+/// The tokens of a sentence, 1 to 2,000, and its edges, in the order of their dependents.
+#[derive(Debug, Drop)]
+pub struct Sentence {
+    pub tokens: List<Token>,
+    pub edges: List<Edge>,
+    pub ghost some: { 0 < length tokens },
+    pub ghost few: { length tokens ≤ 2000 },
+    pub ghost ends: { EndsWithin (length tokens) edges },
+    pub ghost distinct: { AreDistinct edges },
+}

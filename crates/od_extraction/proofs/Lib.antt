@@ -1,0 +1,4 @@
+-- The lemmas of this crate.
+pub mod Distinct
+pub mod Sameness
+pub mod Tests

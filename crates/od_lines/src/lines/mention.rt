@@ -1,0 +1,235 @@
+//! The lines of mentions, each written straight into the output: a print has one for each mention of its session.
+ghost use Rattle.std.specs.Prelude.{◌≡◌, ◌∷◌, ◌++◌, map, flat_map, slice_get, codes, IfOk, OnOk};
+ghost use Rattle.json.specs.Token.{key as key_token};
+ghost use Rattle.json.specs.Tree.{json_tokens};
+ghost use Rattle.serde_json.specs.Data.{array};
+ghost use Rattle.serde_json.specs.View.{items_of};
+ghost use Rattle.serde_json.specs.Written.{outline};
+ghost use Rattle.od_command.specs.Lines.Data.{count, word, word_or_null};
+ghost use Rattle.od_command.specs.Lines.Mentions.{text_in, part_data, mention_data, tokens_in, line_in, mention_line as mention_line_of};
+ghost use Rattle.od_extraction.specs.Joined.{joined};
+
+use crate::lines::words::span_text;
+use json::Writer;
+use od_document::doc::Doc;
+use od_document::token::Token;
+use od_extraction::mention::{Mention, Part};
+use od_text::list::List;
+use od_text::text::{Bytes, NoMemory, Text};
+use std::alloc::{AllocError, Global};
+
+/// The line of a mention of this session; of a mention in no document of `docs`, no line.
+pub fn mention_line(
+    alloc: Global,
+    session: &Text,
+    docs: &[Doc],
+    mention: &Mention,
+) -> Result<Bytes, NoMemory>
+    ensures { IfOk result (λ line. line ≡ mention_line_of session.now docs.now mention.now) }
+{
+    match add_mention(Vec::new(alloc), alloc, session, docs, mention) {
+        Ok(line) => Ok(Bytes::from_vec(line)),
+        Err(_) => Err(NoMemory),
+    }
+}
+
+/// The lines of a session: one for each mention, in the order in which the rounds added them.
+pub fn session_lines(
+    alloc: Global,
+    session: &Text,
+    docs: &[Doc],
+    rounds: &[List<Mention>],
+) -> Result<Bytes, NoMemory>
+    ensures { IfOk result (λ lines. lines ≡ flat_map (mention_line_of session.now docs.now) (joined rounds.now)) }
+{
+    match add_rounds(alloc, session, docs, rounds) {
+        Ok(lines) => Ok(Bytes::from_vec(lines)),
+        Err(_) => Err(NoMemory),
+    }
+}
+
+/// The bytes of a session's lines.
+fn add_rounds(
+    alloc: Global,
+    session: &Text,
+    docs: &[Doc],
+    rounds: &[List<Mention>],
+) -> Result<Vec<u8>, AllocError>
+    ensures { IfOk result (λ lines. lines.items ≡ flat_map (mention_line_of session.now docs.now) (joined rounds.now)) }
+{
+    let mut lines = Vec::new(alloc);
+    for round in rounds {
+        lines = add_mentions(lines, alloc, session, docs, round.get())?;
+    }
+    Ok(lines)
+}
+
+/// The output with the lines of one round's mentions.
+fn add_mentions(
+    out: Vec<u8>,
+    alloc: Global,
+    session: &Text,
+    docs: &[Doc],
+    mentions: &[Mention],
+) -> Result<Vec<u8>, AllocError>
+    ensures { IfOk result (λ lines. lines.items ≡ out.items ++ flat_map (mention_line_of session.now docs.now) mentions.now) }
+{
+    let mut lines = out;
+    for mention in mentions {
+        lines = add_mention(lines, alloc, session, docs, mention)?;
+    }
+    Ok(lines)
+}
+
+/// The output with the line of a mention, where its document is there.
+#[tactic(auto, unfolding(od_command::specs::Lines::Mentions::mention_line))]
+fn add_mention(
+    out: Vec<u8>,
+    alloc: Global,
+    session: &Text,
+    docs: &[Doc],
+    mention: &Mention,
+) -> Result<Vec<u8>, AllocError>
+    ensures { IfOk result (λ lines. lines.items ≡ out.items ++ mention_line_of session.now docs.now mention.now) }
+{
+    match docs.get(mention.document as usize) {
+        None => Ok(out),
+        Some(doc) => add_line(out, alloc, session, doc, mention),
+    }
+}
+
+/// The output with the line of a mention in this document.
+fn add_line(
+    out: Vec<u8>,
+    alloc: Global,
+    session: &Text,
+    doc: &Doc,
+    mention: &Mention,
+) -> Result<Vec<u8>, AllocError>
+    ensures { IfOk result (λ lines. lines.items ≡ out.items ++ line_in session.now (Some doc.now) mention.now) }
+{
+    let tokens = tokens_of(doc, mention.sentence);
+    let mut line = Writer::new(out);
+    write_mention(&mut line, alloc, session, &doc.name, tokens, mention)?;
+    let mut lines = line.into_inner();
+    lines.push(b'\n')?;
+    Ok(lines)
+}
+
+/// The tokens of a sentence, numbered from 0; none where the document has no such sentence.
+fn tokens_of(doc: &Doc, sentence: u32) -> &[Token]
+    ensures { result.now ≡ tokens_in (slice_get doc.now.sentences sentence) }
+{
+    match doc.sentences.get().get(sentence as usize) {
+        None => &[],
+        Some(sentence) => sentence.tokens.get(),
+    }
+}
+
+/// Writes a key and a number.
+fn write_count(line: &mut Writer, key: &str, number: u32) -> Result<(), AllocError>
+    ensures tokens { OnOk result (line.new.tokens ≡ line.old.tokens ++ key_token key.now ∷ json_tokens (outline (count number))) }
+    ensures before { line.new.before ≡ line.old.before }
+{
+    line.key(key)?;
+    line.u64(u64::from(number))
+}
+
+/// Writes a key and a text.
+fn write_word(line: &mut Writer, key: &str, text: &Text) -> Result<(), AllocError>
+    ensures tokens { OnOk result (line.new.tokens ≡ line.old.tokens ++ key_token key.now ∷ json_tokens (outline (word text.now))) }
+    ensures before { line.new.before ≡ line.old.before }
+{
+    line.key(key)?;
+    line.string(text.get())
+}
+
+/// Writes the label of an argument, which may be absent.
+fn write_label(line: &mut Writer, label: &Option<Text>) -> Result<(), AllocError>
+    ensures tokens { OnOk result (line.new.tokens ≡ line.old.tokens ++ key_token (codes "label") ∷ json_tokens (outline (word_or_null label.now))) }
+    ensures before { line.new.before ≡ line.old.before }
+{
+    line.key("label")?;
+    match label {
+        None => line.null(),
+        Some(text) => line.string(text.get()),
+    }
+}
+
+/// Writes the words from a start to an end that is not included.
+fn write_text(
+    line: &mut Writer,
+    alloc: Global,
+    tokens: &[Token],
+    start: u32,
+    end: u32,
+) -> Result<(), AllocError>
+    ensures tokens { OnOk result (line.new.tokens ≡ line.old.tokens ++ key_token (codes "text") ∷ json_tokens (outline (word (text_in tokens.now start end)))) }
+    ensures before { line.new.before ≡ line.old.before }
+{
+    let text = span_text(alloc, tokens, start, end)?;
+    line.key("text")?;
+    line.string(text.as_str())
+}
+
+/// Writes an argument.
+fn write_part(
+    line: &mut Writer,
+    alloc: Global,
+    tokens: &[Token],
+    part: &Part,
+) -> Result<(), AllocError>
+    ensures tokens { OnOk result (line.new.tokens ≡ line.old.tokens ++ json_tokens (outline (part_data tokens.now part.now))) }
+    ensures before { line.new.before ≡ line.old.before }
+{
+    line.begin_object()?;
+    write_count(line, "end", part.end)?;
+    write_label(line, &part.label)?;
+    write_word(line, "name", &part.name)?;
+    write_count(line, "start", part.start)?;
+    write_text(line, alloc, tokens, part.start, part.end)?;
+    line.end_object()
+}
+
+/// Writes the arguments.
+fn write_parts(
+    line: &mut Writer,
+    alloc: Global,
+    tokens: &[Token],
+    parts: &List<Part>,
+) -> Result<(), AllocError>
+    ensures tokens { OnOk result (line.new.tokens ≡ line.old.tokens ++ key_token (codes "arguments") ∷ json_tokens (outline (array (items_of (map (part_data tokens.now) parts.now))))) }
+    ensures before { line.new.before ≡ line.old.before }
+{
+    line.key("arguments")?;
+    line.begin_array()?;
+    for part in parts.get() {
+        write_part(line, alloc, tokens, part)?;
+    }
+    line.end_array()
+}
+
+/// Writes a mention of a session, in the document of this name, over the tokens of its sentence.
+fn write_mention(
+    line: &mut Writer,
+    alloc: Global,
+    session: &Text,
+    document: &Text,
+    tokens: &[Token],
+    mention: &Mention,
+) -> Result<(), AllocError>
+    ensures tokens { OnOk result (line.new.tokens ≡ line.old.tokens ++ json_tokens (outline (mention_data session.now document.now tokens.now mention.now))) }
+    ensures before { line.new.before ≡ line.old.before }
+{
+    line.begin_object()?;
+    write_parts(line, alloc, tokens, &mention.parts)?;
+    write_word(line, "document", document)?;
+    write_count(line, "end", mention.end)?;
+    write_word(line, "label", &mention.label)?;
+    write_word(line, "rule", &mention.rule)?;
+    write_count(line, "sentence", mention.sentence)?;
+    write_word(line, "session", session)?;
+    write_count(line, "start", mention.start)?;
+    write_text(line, alloc, tokens, mention.start, mention.end)?;
+    line.end_object()
+}

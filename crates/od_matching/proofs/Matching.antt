@@ -1,0 +1,17 @@
+pub mod Built
+pub mod Derived
+pub mod Distinct
+pub mod Enclosed
+pub mod Examples
+pub mod Lying
+pub mod PathExamples
+pub mod Preferred
+pub mod Reaches
+pub mod Rules
+pub mod Scans
+pub mod Spread
+pub mod Steps
+pub mod Tests
+pub mod TextExamples
+pub mod Unambiguous
+pub mod Words

@@ -1,0 +1,14 @@
+-- Where words stand.
+use Rattle.std.specs.Prelude.{ℕ, ◌+◌, Bool, true, false, ◌&&◌, List, [], ◌∷◌, length, bytes_eq}
+use Rattle.od_matching.specs.Matching.Scan.{Match}
+use Rattle.od_document.specs.declared.token.Token.{Token}
+
+-- the match of words from place i
+abbrev pub words_match : List (List ℕ) → ℕ → Match
+words_match words i = record { start = i; end = i + length words; captures = [] }
+
+-- the tokens begin with these words, by their norms
+abbrev pub begins_with : List (List ℕ) → List Token → Bool
+begins_with [] tokens = true
+begins_with (word ∷ words) [] = false
+begins_with (word ∷ words) (token ∷ tokens) = bytes_eq word token.norm && begins_with words tokens

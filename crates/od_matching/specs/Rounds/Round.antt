@@ -1,0 +1,72 @@
+-- What a round adds, and the lists of the rounds one after another.
+use Rattle.std.specs.Prelude.{ℕ, zero, suc, ◌+◌, List, [], ◌∷◌, ◌++◌, length, map, filter, fold, flat_map, Option, Some, None, ◌&&◌, if◌then◌else◌, ◌==◌, nat_lt}
+use Rattle.od_document.specs.declared.doc.Doc.{Doc}
+use Rattle.od_pattern.specs.declared.rule.Rule.{Rule}
+use Rattle.od_pattern.specs.declared.grammar.Grammar.{Grammar}
+use Rattle.od_extraction.specs.declared.mention.Mention.{Mention}
+use Rattle.od_extraction.specs.declared.mention.RoundResult.{RoundResult}
+use Rattle.od_extraction.specs.declared.mention.RoundResult.TheVariants.{Found, Crowded, TooMany}
+use Rattle.od_extraction.specs.Joined.{joined}
+use Rattle.od_extraction.specs.Mentions.{is_among, distinct}
+use Rattle.od_matching.specs.Matching.Rules.{Outcome, mentions, crowded, rule_mentions}
+use Rattle.od_extraction.specs.Weight.{weight, most_weight}
+use Rattle.od_matching.specs.Rounds.Sites.{Site, sites, rules_in}
+
+-- what a round meets: a mention, or a rule and a sentence with too many
+pub data Item : Type 0 where
+  one : Mention → Item
+  crowd : ℕ → ℕ → ℕ → ℕ → Item
+
+-- the mentions of one sentence
+abbrev pub in_sentence : ℕ → ℕ → List Mention → List Mention
+in_sentence document number old = filter (λ m. m.document == document && m.sentence == number) old
+
+-- what a rule of this number gives on a sentence
+abbrev pub items_of : ℕ → Site → Outcome → List Item
+items_of rule site (mentions ms) = map one ms
+items_of rule site (crowded count) = crowd rule site.document site.number count ∷ []
+
+abbrev pub items_at : List Mention → ℕ × Rule → Site → List Item
+items_at old rule site = items_of rule.0 site (rule_mentions rule.1 site.document site.number site.words (in_sentence site.document site.number old))
+
+-- for one rule the sentences in the order of the documents
+abbrev pub items_by : List Doc → List Mention → ℕ × Rule → List Item
+items_by docs old rule = flat_map (λ site. items_at old rule site) (sites docs)
+
+-- the rules in the order of the file
+abbrev pub items : List Doc → Grammar → ℕ → List Mention → List Item
+items docs g r old = flat_map (λ rule. items_by docs old rule) (rules_in r g)
+
+-- a new mention, which may be too heavy
+abbrev pub weighed : List Mention → List Mention → Mention → RoundResult
+weighed old new m = if nat_lt most_weight (weight (old ++ (new ++ m ∷ []))) then TooMany (weight (old ++ (new ++ m ∷ []))) else Found (new ++ m ∷ [])
+
+-- one item more: a mention that is there already is not added, and the first refusal stays
+abbrev pub walked : List Mention → RoundResult → Item → RoundResult
+walked old (Found new) (one m) = if is_among (old ++ new) m then Found new else weighed old new m
+walked old (Found new) (crowd rule document sentence count) = Crowded rule document sentence count
+walked old (Crowded rule document sentence count) item = Crowded rule document sentence count
+walked old (TooMany total) item = TooMany total
+
+-- round r over the documents, against mentions without repeats
+abbrev pub walk : List Doc → Grammar → ℕ → List Mention → RoundResult
+walk docs g r old = fold (walked old) (Found []) (items docs g r old)
+
+-- round r over the documents, against the mentions that are there; each of these counts once
+unfoldable pub round : List Doc → Grammar → ℕ → List Mention → RoundResult
+round docs g r old = walk docs g r (distinct old)
+
+-- the lists with one found more, where the round was not refused
+abbrev pub with_found : List (List Mention) → RoundResult → Option (List (List Mention))
+with_found lists (Found new) = Some (lists ++ new ∷ [])
+with_found lists (Crowded rule document sentence count) = None
+with_found lists (TooMany total) = None
+
+abbrev pub one_more : List Doc → Grammar → Option (List (List Mention)) → Option (List (List Mention))
+one_more docs g None = None
+one_more docs g (Some lists) = with_found lists (round docs g (length lists + 1) (joined lists))
+
+-- the lists of the first r rounds, where none is refused
+unfoldable pub rounds : List Doc → Grammar → ℕ → Option (List (List Mention))
+rounds docs g zero = Some []
+rounds docs g (suc r) = one_more docs g (rounds docs g r)

@@ -1,0 +1,4 @@
+//! What patterns, rules and rounds find, and the laws of it.
+#![tactic(auto)]
+
+pub mod matching_laws;

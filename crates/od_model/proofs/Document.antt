@@ -1,6 +1,0 @@
-pub mod Edges
-pub mod Existence
-pub mod Faults
-pub mod Numbers
-pub mod Uniqueness
-pub mod Weight

@@ -1,5 +1,0 @@
-use Rattle.od_model.proofs.Matching.Scans.{one_best}
-use Rattle.od_model.proofs.matching_laws.best_is_unique.Goals as goal
-
-pub returns : goal.returns
-returns c = one_best

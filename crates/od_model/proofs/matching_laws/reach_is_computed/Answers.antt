@@ -1,5 +1,0 @@
-use Rattle.od_model.proofs.Matching.Reaches.{reached_from}
-use Rattle.od_model.proofs.matching_laws.reach_is_computed.Goals as goal
-
-pub returns : goal.returns
-returns c = reached_from

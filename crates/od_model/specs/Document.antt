@@ -1,9 +1,0 @@
-pub mod Building
-pub mod Columns
-pub mod Edges
-pub mod Faults
-pub mod Laws
-pub mod Lines
-pub mod Reading
-pub mod Weight
-pub mod Words

@@ -1,4 +1,0 @@
-pub mod Phases
-pub mod Round
-pub mod Weight
-pub mod Sites

@@ -1,0 +1,10 @@
+-- There are not more mentions than they may weigh.
+use Rattle.std.proofs.Common.{◌≤◌, length, arith}
+use Rattle.od_extraction.specs.Joined.{joined}
+use Rattle.od_extraction.specs.Weight.{most_weight}
+use Rattle.od_rounds.proofs.Walks.{weighed_few}
+use Rattle.od_rounds.proofs.walk.Walk.meet.Goals as goal
+
+pub add-requires : goal.add-requires
+add-requires c =
+    let few : length c.args.self.now.found ≤ most_weight = weighed_few (joined c.args.earlier.now.rounds.now) c.args.self.now.found c.args.self.now.total c.requires in omega arith

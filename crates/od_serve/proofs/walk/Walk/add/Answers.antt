@@ -1,9 +1,0 @@
--- The mention is noted before it is added.
-use Rattle.od_serve.proofs.Walks.{added_noted}
-use Rattle.od_serve.proofs.walk.Walk.add.Goals as goal
-
-pub invariant_of-self-2 : goal.invariant_of-self-2
-invariant_of-self-2 c = record {
-  noted = added_noted c.push.result c.args.self.now.fresh c.note.new.self c.args.self.now.found c.push.new.self c.args.mention c.len.result c.len.ensures
-      c.in_ok-note.ensures.ok c.push.ensures.ok c.push.ensures.err c.args.self.now.noted;
-}

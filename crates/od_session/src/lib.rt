@@ -1,0 +1,4 @@
+//! The one-thread object and its sessions.
+#![tactic(auto)]
+
+pub mod object;

@@ -1,0 +1,5 @@
+-- The definitions of this crate.
+pub mod Cuts
+pub mod Folding
+pub mod Lists
+pub mod formers
