@@ -1,12 +1,24 @@
 //! Texts and rows of bytes, which contracts see as lists of bytes, and the copying of values.
-ghost use Rattle.std.specs.Prelude.{◌≡◌, ◌↔◌, [], ◌∷◌, ◌++◌, IfOk, OnOk, OnErr, IsTrue, string_bytes};
+ghost use Rattle.std.specs.Prelude.{◌≡◌, ◌↔◌, [], ◌∷◌, ◌++◌, IfOk, OnOk, OnErr, IsTrue, string_bytes, encode_utf8};
 
-use std::alloc::Global;
+use std::alloc::{AllocError, AllocFailed, Global};
 use std::marker::Model;
 
-/// Memory was refused.
+/// Memory was refused. The allocator's refusals become one by `?`.
 #[derive(Clone, Copy, Debug, PartialEq, Eq)]
 pub struct NoMemory;
+
+impl From<AllocError> for NoMemory {
+    fn from(_refused: AllocError) -> NoMemory {
+        NoMemory
+    }
+}
+
+impl<T: Drop> From<AllocFailed<T>> for NoMemory {
+    fn from(_refused: AllocFailed<T>) -> NoMemory {
+        NoMemory
+    }
+}
 
 /// A value that can be copied where memory is given.
 pub trait Copied {
@@ -45,10 +57,8 @@ impl Text {
     pub fn from_str(alloc: Global, text: &str) -> Result<Text, NoMemory>
         ensures { IfOk result (λ t. t ≡ text.now) }
     {
-        match String::from_str(alloc, text) {
-            Ok(inner) => Ok(Text { inner }),
-            Err(_) => Err(NoMemory),
-        }
+        let inner = String::from_str(alloc, text)?;
+        Ok(Text { inner })
     }
 
     /// The text of a string, which is not copied.
@@ -56,6 +66,15 @@ impl Text {
         ensures { result ≡ string_bytes inner }
     {
         Text { inner }
+    }
+
+    /// One more character at the end; where memory is refused, nothing changes.
+    pub fn push(&mut self, c: char) -> Result<(), NoMemory>
+        ensures ok { OnOk result (self.new ≡ self.old ++ encode_utf8 c) }
+        ensures err { OnErr result (self.new ≡ self.old) }
+    {
+        self.inner.push(c)?;
+        Ok(())
     }
 
     /// The text as a borrowed one.
@@ -137,10 +156,8 @@ impl Bytes {
     pub fn from_slice(alloc: Global, bytes: &[u8]) -> Result<Bytes, NoMemory>
         ensures { IfOk result (λ b. b ≡ bytes.now) }
     {
-        match Vec::from_slice(alloc, bytes) {
-            Ok(inner) => Ok(Bytes { inner }),
-            Err(_) => Err(NoMemory),
-        }
+        let inner = Vec::from_slice(alloc, bytes)?;
+        Ok(Bytes { inner })
     }
 
     /// The bytes as a slice.
@@ -155,10 +172,8 @@ impl Bytes {
         ensures ok { OnOk result (self.new ≡ self.old ++ byte ∷ []) }
         ensures err { OnErr result (self.new ≡ self.old) }
     {
-        match self.inner.push(byte) {
-            Ok(()) => Ok(()),
-            Err(_) => Err(NoMemory),
-        }
+        self.inner.push(byte)?;
+        Ok(())
     }
 
     /// More bytes at the end; where memory is refused, nothing changes.
@@ -166,10 +181,8 @@ impl Bytes {
         ensures ok { OnOk result (self.new ≡ self.old ++ bytes.now) }
         ensures err { OnErr result (self.new ≡ self.old) }
     {
-        match self.inner.extend_from_slice(bytes) {
-            Ok(()) => Ok(()),
-            Err(_) => Err(NoMemory),
-        }
+        self.inner.extend_from_slice(bytes)?;
+        Ok(())
     }
 
     /// Whether two rows have the same bytes.
