@@ -180,3 +180,59 @@ impl Copied for Command {
         })
     }
 }
+
+impl Copied for Refusal {
+    fn copy(&self, _alloc: Global) -> Result<Refusal, NoMemory> {
+        Ok(*self)
+    }
+}
+
+impl Copied for Reply {
+    fn copy(&self, alloc: Global) -> Result<Reply, NoMemory> {
+        Ok(match self {
+            Reply::Added { documents } => Reply::Added {
+                documents: *documents,
+            },
+            Reply::Opened { documents, limit } => Reply::Opened {
+                documents: *documents,
+                limit: *limit,
+            },
+            Reply::Stepped {
+                round,
+                added,
+                phase,
+            } => Reply::Stepped {
+                round: *round,
+                added: *added,
+                phase: *phase,
+            },
+            Reply::Resumed {
+                documents,
+                limit,
+                round,
+                mentions,
+                phase,
+            } => Reply::Resumed {
+                documents: *documents,
+                limit: *limit,
+                round: *round,
+                mentions: *mentions,
+                phase: *phase,
+            },
+            Reply::Printed {
+                round,
+                mentions,
+                phase,
+            } => Reply::Printed {
+                round: *round,
+                mentions: *mentions,
+                phase: *phase,
+            },
+            Reply::Released => Reply::Released,
+            Reply::Settled { sizes } => Reply::Settled {
+                sizes: sizes.copy(alloc)?,
+            },
+            Reply::Refused(refusal) => Reply::Refused(*refusal),
+        })
+    }
+}

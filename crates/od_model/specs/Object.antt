@@ -1,3 +1,4 @@
 pub mod Due
 pub mod Effects
 pub mod Replies
+pub mod Sound

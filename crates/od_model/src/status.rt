@@ -1,7 +1,8 @@
 //! How a call of the program ends.
+use od_text::text::Text;
 
 /// How a call of the program ends, each way with its exit status.
-#[derive(Clone, Copy, Debug, PartialEq, Eq)]
+#[derive(Debug, Drop)]
 pub enum Status {
     /// 0: every command was answered, and none was refused.
     Done,
@@ -11,6 +12,8 @@ pub enum Status {
     Usage,
     /// 3: the input is no script.
     NoScript,
+    /// 4: the script's first grammar that is not accepted, by its name.
+    BadGrammar { name: Text },
     /// 7: a read failed.
     ReadFault,
     /// 8: a write failed.

@@ -1,3 +1,3 @@
 -- The definitions of this crate.
-pub mod Runnable
+pub mod Names
 pub mod Thin

@@ -6,33 +6,10 @@ use Rattle.od_pattern.specs.declared.grammar.Head.{Head}
 use Rattle.od_command.specs.declared.history.Command.TheVariants.{AddDoc, OpenSession, Print}
 use Rattle.od_order.specs.declared.script.Order.TheVariants.{One, Run}
 use Rattle.od_order.specs.declared.script.Script.{Script}
+use Rattle.od_order.specs.declared.script.TheConstants.{SCRIPT_BYTES}
 use Rattle.od_text.specs.Cuts.{split_once}
-use Rattle.od_language.specs.Query.{is_letter, is_word_query, words_of}
-
--- ## Names and numbers
-
-abbrev pub is_digit : ℕ → Bool
-is_digit b = nat_le 48 b && nat_le b 57
-
--- an ASCII letter, a digit, `_`, `.` or `-`
-abbrev pub is_name_byte : ℕ → Bool
-is_name_byte b = is_letter b || (is_digit b || (b == 95 || (b == 46 || b == 45)))
-
--- a name has 1 to 64 of these
-abbrev pub is_name : List ℕ → Bool
-is_name text = nat_le 1 (length text) && (nat_le (length text) 64 && list_all is_name_byte text)
-
--- the number that digits go on from n
-abbrev pub digits_from : ℕ → List ℕ → Option ℕ
-digits_from n [] = Some n
-digits_from n (b ∷ text) = if is_digit b then digits_from (n * 10 + (b - 48)) text else None
-
--- a number is `0`, or up to 9 digits without a leading zero
-abbrev pub number_of : List ℕ → Option ℕ
-number_of text =
-    if length text == 0 || nat_lt 9 (length text) then None
-    else (if slice_index text 0 == 48 && nat_lt 1 (length text) then None
-    else digits_from 0 text)
+use Rattle.od_language.specs.Query.{is_word_query, words_of}
+use Rattle.od_order.specs.Names.{is_name, script_number}
 
 -- ## Lines
 
@@ -63,7 +40,7 @@ with_count name None = None
 with_count name (Some count) = Some (name, count)
 
 abbrev pub doc_words : List (List ℕ) → Option (List ℕ × ℕ)
-doc_words (first ∷ name ∷ count ∷ []) = if bytes_eq first (codes "doc") && is_name name then with_count name (number_of count) else None
+doc_words (first ∷ name ∷ count ∷ []) = if bytes_eq first (codes "doc") && is_name name then with_count name (script_number count) else None
 doc_words words = None
 
 -- `open SESSION GRAMMAR LIMIT`, with the grammar of the script and a limit from 1 to 100
@@ -72,7 +49,7 @@ with_limit session None = None
 with_limit session (Some limit) = if nat_le 1 limit && nat_le limit 100 then Some (session, limit) else None
 
 abbrev pub open_words : List ℕ → List (List ℕ) → Option (List ℕ × ℕ)
-open_words grammar (first ∷ session ∷ name ∷ limit ∷ []) = if bytes_eq first (codes "open") && (is_name session && bytes_eq name grammar) then with_limit session (number_of limit) else None
+open_words grammar (first ∷ session ∷ name ∷ limit ∷ []) = if bytes_eq first (codes "open") && (is_name session && bytes_eq name grammar) then with_limit session (script_number limit) else None
 open_words grammar words = None
 
 -- a command's word and the session's name
@@ -111,10 +88,6 @@ abbrev pub script_in : List (List ℕ) → Option Script
 script_in (query ∷ client ∷ doc ∷ lines) = script_headed (query_line query) client doc lines
 script_in lines = None
 
--- the most bytes that a script may have
-abbrev pub most_bytes : ℕ
-most_bytes = 67108864
-
 -- the script of the bytes, where they are one
 unfoldable pub script_of : List ℕ → Option Script
-script_of bytes = if nat_lt most_bytes (length bytes) then None else script_in (parts_of bytes)
+script_of bytes = if nat_lt SCRIPT_BYTES (length bytes) then None else script_in (parts_of bytes)

@@ -4,6 +4,15 @@ use od_pattern::grammar::Head;
 use od_text::list::List;
 use od_text::text::Text;
 
+/// The most bytes that a script may have: 64 MiB.
+pub const SCRIPT_BYTES: usize = 67_108_864;
+
+/// The most clients that a script may have.
+pub const CLIENTS: usize = 8;
+
+/// The most orders that a client may have.
+pub const CLIENT_ORDERS: usize = 10_000;
+
 /// What a script asks of a client: one command, or steps of a session up to the first answer that ends them.
 #[derive(Debug, Drop)]
 pub enum Order {

@@ -1,5 +1,5 @@
 -- What the one-thread object has, and the tests that its refusals ask.
-use Rattle.std.specs.Prelude.{◌≡◌, ℕ, ◌+◌, List, [], length, take, find, sum_by, Option, unwrap_or, Bool, true, false, ◌&&◌, ◌||◌, nat_lt, nat_le, bytes_eq}
+use Rattle.std.specs.Prelude.{◌≡◌, ℕ, ◌+◌, List, [], length, take, find, sum_by, Option, Some, unwrap_or, Bool, true, false, ◌&&◌, ◌||◌, nat_lt, nat_le, bytes_eq}
 use Rattle.std.specs.List.{list_any}
 use Rattle.od_document.specs.declared.doc.Doc.{Doc}
 use Rattle.od_pattern.specs.declared.grammar.Head.{Head}
@@ -11,6 +11,7 @@ use Rattle.od_extraction.specs.declared.mention.RoundResult.{RoundResult}
 use Rattle.od_extraction.specs.declared.phase.Phase.{Phase}
 use Rattle.od_session.specs.declared.object.SessionState.{SessionState}
 use Rattle.od_session.specs.declared.object.OneThread.{OneThread}
+use Rattle.od_session.specs.declared.object.TheConstants.{ALL_DOCUMENTS, ALL_BYTES}
 use Rattle.od_language.specs.Query.{grammar_of}
 use Rattle.od_text.specs.Lists.{EachPoint}
 use Rattle.od_matching.specs.Rounds.Round.{round}
@@ -33,9 +34,13 @@ size_of docs = sum_by (λ doc. doc.size) docs
 abbrev pub sentence_count : List Doc → ℕ
 sentence_count docs = sum_by (λ doc. length doc.sentences) docs
 
--- 100,000 documents are there, or all bodies would pass 128 MiB
+-- as many documents are there as may be, or with so many bytes more all of them would have too many
 abbrev pub is_full : OneThread → ℕ → Bool
-is_full o size = nat_le 100000 (length o.docs) || nat_lt 134217728 (size_of o.docs + size)
+is_full o size = nat_le ALL_DOCUMENTS (length o.docs) || nat_lt ALL_BYTES (size_of o.docs + size)
+
+-- the grammar of a head is accepted
+abbrev pub IsAccepted : Head → Type 0
+IsAccepted head = (grammar : Grammar) × (grammar_of head.kind head.text ≡ Some grammar)
 
 -- the session has the name
 abbrev pub is_named : List ℕ → SessionState → Bool

@@ -198,3 +198,9 @@ impl Copied for Bytes {
         Bytes::from_slice(alloc, self.get())
     }
 }
+
+impl Copied for u32 {
+    fn copy(&self, _alloc: Global) -> Result<u32, NoMemory> {
+        Ok(*self)
+    }
+}

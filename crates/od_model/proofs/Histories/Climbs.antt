@@ -14,7 +14,7 @@ use Rattle.od_model.specs.Object.Replies.{reply_step, held_in, Replies}
 use Rattle.od_model.specs.Object.Effects.{change, change_one, stepped, found_of, effect_of}
 use Rattle.od_model.specs.History.Orders.{GoesOn}
 use Rattle.od_text.proofs.Lists.{find-map, find-passes, Each-find}
-use Rattle.od_model.proofs.Histories.Sound.{IsSound, IsSoundSession}
+use Rattle.od_model.specs.Object.Sound.{IsSound, IsSoundSession}
 
 -- the number of lists of a session that may be there
 abbrev pub lists_of : Option SessionState → ℕ

@@ -15,16 +15,18 @@ use Rattle.od_session.specs.declared.object.SessionState.{SessionState}
 use Rattle.od_session.specs.declared.object.OneThread.{OneThread}
 use Rattle.od_document.specs.Building.{document_of}
 use Rattle.od_text.specs.Lists.{Each, points_after}
-use Rattle.od_session.specs.Parts.{is_named, Distinct, session_of, has_session, head_of}
+use Rattle.od_session.specs.declared.object.TheConstants.{SESSIONS, SESSION_ROUNDS}
+use Rattle.od_session.specs.Parts.{IsAccepted, is_named, Distinct, session_of, has_session, head_of}
 use Rattle.od_model.specs.Object.Replies.{reply_headed, Replies}
 use Rattle.od_model.specs.Object.Effects.{doc_made, change, stepped, taken_by, let_go, effect_of}
 use Rattle.od_model.specs.History.Legal.{state_after, IsNext, Legal}
-use Rattle.od_model.specs.History.Prints.{Opening, IsOpened, IsAccepted}
+use Rattle.od_model.specs.History.Prints.{Opening, IsOpened}
 use Rattle.od_text.proofs.Lists.{Each-append, Each-weaker, Each-both}
 use Rattle.od_model.proofs.Objects.Names.{Each-changed}
 use Rattle.od_model.proofs.Objects.Places.{name-itself}
 use Rattle.od_model.proofs.Histories.Steps.{state_after-start, state_after-snoc}
-use Rattle.od_model.proofs.Histories.Sound.{IsSound, IsSoundSession, keeps}
+use Rattle.od_model.specs.Object.Sound.{IsSound, IsSoundSession}
+use Rattle.od_model.proofs.Histories.Sound.{keeps}
 
 -- how a session was opened, while these documents are committed
 abbrev pub opening_of : SessionState → List Doc → Opening
@@ -111,7 +113,7 @@ module _ (start : OneThread) (heads : List Head) where
     opened-as : (name : List ℕ) (documents shown limit : ℕ) (head : Option Head) → Opened documents shown ≡ reply_headed o name limit head → (found : Head) × (head ≡ Some found) × (documents ≡ length o.docs) × (shown ≡ limit)
     opened-as name documents shown limit None k = absurd (cc)
     opened-as name documents shown limit (Some head) k =
-        let says = opened-limit documents shown limit (nat_lt limit 1 || nat_lt 100 limit) (has_session o name) (nat_le 128 (length o.sessions)) k in
+        let says = opened-limit documents shown limit (nat_lt limit 1 || nat_lt SESSION_ROUNDS limit) (has_session o name) (nat_le SESSIONS (length o.sessions)) k in
         (head, refl, says.0, says.1)
 
     changed : (name : List ℕ) (f : SessionState → SessionState) → ((s : SessionState) → IsOpenedSession (seen ++ e ∷ []) o.docs s → IsOpenedSession (seen ++ e ∷ []) o.docs (f s)) → AreOpened (record o { sessions = change name f o.sessions })

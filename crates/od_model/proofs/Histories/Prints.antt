@@ -9,17 +9,18 @@ use Rattle.od_session.specs.declared.object.SessionState.{SessionState}
 use Rattle.od_session.specs.declared.object.OneThread.{OneThread}
 use Rattle.od_text.specs.Lists.{Each}
 use Rattle.od_extraction.specs.Joined.{joined}
-use Rattle.od_session.specs.Parts.{is_named, session_of, phase_with}
+use Rattle.od_session.specs.Parts.{IsAccepted, is_named, session_of, phase_with}
 use Rattle.od_model.specs.Object.Replies.{held, held_in, held_as, reply_print}
 use Rattle.od_model.specs.History.Legal.{state_after, Legal}
 use Rattle.od_model.specs.History.Lines.{lines_of_session}
-use Rattle.od_model.specs.History.Prints.{IsOpened, ShowsRounds, IsAccepted, PrintsRounds}
+use Rattle.od_model.specs.History.Prints.{IsOpened, ShowsRounds, PrintsRounds}
 use Rattle.od_text.proofs.Lists.{Each-find, find-passes}
 use Rattle.od_model.proofs.Objects.Names.{same-name}
 use Rattle.od_matching.proofs.Rounds.Lying.{rounds-lie}
 use Rattle.od_model.proofs.Histories.Openings.{opening_of, IsOpenedSession, AreOpenedAfter, opened-after}
 use Rattle.od_model.proofs.Histories.Steps.{Legal-front, Legal-at}
-use Rattle.od_model.proofs.Histories.Sound.{IsSound, IsSoundSession, sound-after, grammar-is}
+use Rattle.od_model.specs.Object.Sound.{IsSound, IsSoundSession}
+use Rattle.od_model.proofs.Histories.Sound.{sound-after, grammar-is}
 
 -- what a print says of the session that it finds
 record IsPrinted (s : SessionState) (number mentions : ℕ) (state : Phase) : Type 0 where

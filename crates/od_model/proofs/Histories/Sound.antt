@@ -29,28 +29,15 @@ use Rattle.od_text.specs.Lists.{Each, EachPoint, points_after}
 use Rattle.od_matching.specs.Rounds.Round.{round, rounds, one_more, with_found}
 use Rattle.od_extraction.specs.Joined.{joined}
 use Rattle.od_matching.specs.Rounds.Phases.{phase, greatest_first, ends_empty}
-use Rattle.od_session.specs.Parts.{nothing, has_doc, is_full, size_of, is_named, Distinct, session_of, has_session, head_of, is_known, grammar_at, phase_with, round_at}
+use Rattle.od_session.specs.declared.object.TheConstants.{SESSIONS, SESSION_ROUNDS}
+use Rattle.od_session.specs.Parts.{nothing, IsAccepted, has_doc, is_full, size_of, is_named, Distinct, session_of, has_session, head_of, is_known, grammar_at, phase_with, round_at}
 use Rattle.od_model.specs.Object.Replies.{reply_read, reply_headed, reply_step, reply_phase, reply_round, reply_resume, reply_unheld, reply_print, reply_release, held, held_in, held_as, Replies}
+use Rattle.od_model.specs.Object.Sound.{IsSoundSession, IsSound}
 use Rattle.od_model.specs.Object.Effects.{doc_made, change, found_of, stepped, opened, effect_of}
 use Rattle.od_model.specs.History.Legal.{state_after, IsNext, Legal}
-use Rattle.od_model.specs.History.Prints.{IsAccepted}
 use Rattle.od_text.proofs.Lists.{Each-append, Each-weaker, Each-find, EachPoint-snoc}
 use Rattle.od_model.proofs.Objects.Names.{session-unique, Each-change, Each-changed, Distinct-change}
 use Rattle.od_model.proofs.Histories.Steps.{state_after-start, state_after-snoc}
-
--- the lists of the session are those of the rounds over its documents, and none but the last leaves it finished
-pub record IsSoundSession (docs : List Doc) (s : SessionState) : Type 0 where
-  pub grammar : Grammar
-  pub reads : grammar_of s.kind s.text ≡ Some grammar
-  pub within : s.documents ≤ length docs
-  pub few : length s.rounds ≤ s.limit
-  pub hundred : s.limit ≤ 100
-  pub rounds_are : rounds (take s.documents docs) grammar (length s.rounds) ≡ Some s.rounds
-  pub unfinished : EachPoint (λ before list. phase (greatest_first grammar.rules) s.limit before ≢ stage.Finished) s.rounds
-
-pub record IsSound (o : OneThread) : Type 0 where
-  pub distinct : Distinct o.sessions
-  pub sound : Each (IsSoundSession o.docs) o.sessions
 
 -- ## Rounds one after another
 
@@ -142,7 +129,7 @@ module _ (heads : List Head) (accepted : Each IsAccepted heads) (o : OneThread) 
   keeps-doc name body (Some fault) = h
   keeps-doc name body None = doc-new name body (has_doc o name)
 
-  add-session : (name : List ℕ) (limit : ℕ) (head : Head) → IsAccepted head → nat_lt 100 limit ≡ false → has_session o name ≡ false → IsSound (record o { sessions = o.sessions ++ bare-session caller o.docs name limit head ∷ [] })
+  add-session : (name : List ℕ) (limit : ℕ) (head : Head) → IsAccepted head → nat_lt SESSION_ROUNDS limit ≡ false → has_session o name ≡ false → IsSound (record o { sessions = o.sessions ++ bare-session caller o.docs name limit head ∷ [] })
   add-session name limit head ok high new = record {
     distinct = EachPoint-snoc (λ seen s. list_any (is_named s.name) seen ≡ false) o.sessions (bare-session caller o.docs name limit head) h.distinct new;
     sound = Each-append (IsSoundSession o.docs) o.sessions (bare-session caller o.docs name limit head ∷ []) h.sound (
@@ -151,7 +138,7 @@ module _ (heads : List Head) (accepted : Each IsAccepted heads) (o : OneThread) 
         reads = ok.1;
         within = omega arith;
         few = omega arith;
-        hundred = ltb-false 100 limit high;
+        hundred = ltb-false SESSION_ROUNDS limit high;
         rounds_are = rounds-none (take (length o.docs) o.docs) ok.0;
         unfinished = tt;
       },
@@ -159,24 +146,24 @@ module _ (heads : List Head) (accepted : Each IsAccepted heads) (o : OneThread) 
     );
   }
 
-  open-room : (name grammar : List ℕ) (limit : ℕ) (head : Head) → head_of grammar heads ≡ Some head → IsAccepted head → nat_lt 100 limit ≡ false → has_session o name ≡ false → (b : Bool)
+  open-room : (name grammar : List ℕ) (limit : ℕ) (head : Head) → head_of grammar heads ≡ Some head → IsAccepted head → nat_lt SESSION_ROUNDS limit ≡ false → has_session o name ≡ false → (b : Bool)
       → Keeps (OpenSession name grammar limit) (if b then Refused (NoRoom (length o.sessions)) else Opened (length o.docs) limit)
   open-room name grammar limit head is ok high new true = h
   open-room name grammar limit head is ok high new false = subst (λ x. IsSound (record o { sessions = o.sessions ++ opened name (length o.docs) limit caller x })) (sym is) (add-session name limit head ok high new)
 
-  open-new : (name grammar : List ℕ) (limit : ℕ) (head : Head) → head_of grammar heads ≡ Some head → IsAccepted head → nat_lt 100 limit ≡ false → (b : Bool) → has_session o name ≡ b
-      → Keeps (OpenSession name grammar limit) (if b then Refused Taken else (if nat_le 128 (length o.sessions) then Refused (NoRoom (length o.sessions)) else Opened (length o.docs) limit))
+  open-new : (name grammar : List ℕ) (limit : ℕ) (head : Head) → head_of grammar heads ≡ Some head → IsAccepted head → nat_lt SESSION_ROUNDS limit ≡ false → (b : Bool) → has_session o name ≡ b
+      → Keeps (OpenSession name grammar limit) (if b then Refused Taken else (if nat_le SESSIONS (length o.sessions) then Refused (NoRoom (length o.sessions)) else Opened (length o.docs) limit))
   open-new name grammar limit head is ok high true e = h
-  open-new name grammar limit head is ok high false e = open-room name grammar limit head is ok high e (nat_le 128 (length o.sessions))
+  open-new name grammar limit head is ok high false e = open-room name grammar limit head is ok high e (nat_le SESSIONS (length o.sessions))
 
-  open-limit : (name grammar : List ℕ) (limit : ℕ) (head : Head) → head_of grammar heads ≡ Some head → IsAccepted head → (b : Bool) → (nat_lt limit 1 || nat_lt 100 limit) ≡ b
-      → Keeps (OpenSession name grammar limit) (if b then Refused (BadLimit limit) else (if has_session o name then Refused Taken else (if nat_le 128 (length o.sessions) then Refused (NoRoom (length o.sessions)) else Opened (length o.docs) limit)))
+  open-limit : (name grammar : List ℕ) (limit : ℕ) (head : Head) → head_of grammar heads ≡ Some head → IsAccepted head → (b : Bool) → (nat_lt limit 1 || nat_lt SESSION_ROUNDS limit) ≡ b
+      → Keeps (OpenSession name grammar limit) (if b then Refused (BadLimit limit) else (if has_session o name then Refused Taken else (if nat_le SESSIONS (length o.sessions) then Refused (NoRoom (length o.sessions)) else Opened (length o.docs) limit)))
   open-limit name grammar limit head is ok true e = h
-  open-limit name grammar limit head is ok false e = let parts = or_parts (nat_lt limit 1) (nat_lt 100 limit) e in open-new name grammar limit head is ok parts.1 (has_session o name) refl
+  open-limit name grammar limit head is ok false e = let parts = or_parts (nat_lt limit 1) (nat_lt SESSION_ROUNDS limit) e in open-new name grammar limit head is ok parts.1 (has_session o name) refl
 
   keeps-open : (name grammar : List ℕ) (limit : ℕ) (head : Option Head) → head_of grammar heads ≡ head → Keeps (OpenSession name grammar limit) (reply_headed o name limit head)
   keeps-open name grammar limit None e = h
-  keeps-open name grammar limit (Some head) e = open-limit name grammar limit head e (Each-find IsAccepted (λ x. bytes_eq x.name grammar) head heads accepted e) (nat_lt limit 1 || nat_lt 100 limit) refl
+  keeps-open name grammar limit (Some head) e = open-limit name grammar limit head e (Each-find IsAccepted (λ x. bytes_eq x.name grammar) head heads accepted e) (nat_lt limit 1 || nat_lt SESSION_ROUNDS limit) refl
 
   add-round : (name : List ℕ) (s : SessionState) (new : List Mention) → session_of name o.sessions ≡ Some s → phase_with s s.rounds ≡ stage.Going → round_at o.docs s ≡ Found new
       → IsSound (record o { sessions = change name (stepped o.docs) o.sessions })

@@ -67,10 +67,6 @@ pub record ShowsRounds (start : OneThread) (heads : List Head) (seen : List Entr
   pub state_is : state ≡ phase (greatest_first grammar.rules) opening.limit lists
   pub first_finished : EachPoint (λ before list. phase (greatest_first grammar.rules) opening.limit before ≢ Finished) lists
 
--- the grammar of a head is accepted
-abbrev pub IsAccepted : Head → Type 0
-IsAccepted head = (grammar : Grammar) × (grammar_of head.kind head.text ≡ Some grammar)
-
 -- each print of a history shows the rounds over the documents that its session was opened with
 abbrev pub PrintsRounds : OneThread → List Head → List Entry → Type 0
 PrintsRounds start heads history = (front : List Entry) (e : Entry) (rest : List Entry) (name : List ℕ) (round mentions : ℕ) (state : Phase)

@@ -15,6 +15,7 @@ use Rattle.od_command.specs.declared.history.Refusal.{Refusal}
 use Rattle.od_command.specs.declared.history.Refusal.TheVariants.{BadDoc, Duplicate, Full, NoGrammar, BadLimit, Taken, NoRoom, NoSession, Busy, NotHeld, Finished, AtLimit, Crowded, TooMany}
 use Rattle.od_session.specs.declared.object.SessionState.{SessionState}
 use Rattle.od_session.specs.declared.object.OneThread.{OneThread}
+use Rattle.od_session.specs.declared.object.TheConstants.{SESSIONS, SESSION_ROUNDS}
 use Rattle.od_document.specs.Faults.{doc_fault}
 use Rattle.od_text.specs.Lists.{Each}
 use Rattle.od_extraction.specs.Joined.{joined}
@@ -36,9 +37,9 @@ reply_doc o name body = reply_read o name body (doc_fault body)
 abbrev pub reply_headed : OneThread → List ℕ → ℕ → Option Head → Reply
 reply_headed o name limit None = Refused NoGrammar
 reply_headed o name limit (Some head) =
-    if nat_lt limit 1 || nat_lt 100 limit then Refused (BadLimit limit)
+    if nat_lt limit 1 || nat_lt SESSION_ROUNDS limit then Refused (BadLimit limit)
     else (if has_session o name then Refused Taken
-    else (if nat_le 128 (length o.sessions) then Refused (NoRoom (length o.sessions))
+    else (if nat_le SESSIONS (length o.sessions) then Refused (NoRoom (length o.sessions))
     else Opened (length o.docs) limit))
 
 abbrev pub reply_open : List Head → OneThread → List ℕ → List ℕ → ℕ → Reply

@@ -6,24 +6,37 @@ use Rattle.od_command.specs.declared.history.Reply.TheVariants.{Refused}
 use Rattle.od_command.specs.declared.history.Entry.{Entry}
 use Rattle.od_order.specs.declared.script.Order.{Order}
 use Rattle.od_order.specs.declared.script.Script.{Script}
+use Rattle.od_order.specs.declared.script.TheConstants.{CLIENTS, CLIENT_ORDERS}
+use Rattle.od_session.specs.declared.object.OneThread.{OneThread}
 use Rattle.od_text.specs.Lists.{Each}
-use Rattle.od_session.specs.Parts.{nothing}
+use Rattle.od_session.specs.Parts.{IsAccepted}
+use Rattle.od_model.specs.Object.Sound.{IsSound}
 use Rattle.od_model.specs.History.Legal.{Legal, mine}
 use Rattle.od_model.specs.History.Orders.{Begins}
+use Rattle.od_model.specs.History.Prints.{PrintsRounds}
+
+-- the clients of the script are few, and so are the orders of each
+pub record IsRunnable (script : Script) : Type 0 where
+  pub few : length script.clients ≤ CLIENTS
+  pub short : Each (λ (orders : List Order). length orders ≤ CLIENT_ORDERS) script.clients
 
 -- each client's entries unfold its orders so; the first client is caller 1
 abbrev pub EachClient : (List Order → List Entry → Type 0) → List (List Order) → List Entry → Type 0
-EachClient Unfolds clients history = (k : ℕ) (orders : List Order) → slice_get clients k ≡ Some orders → Unfolds orders (mine (k + 1) history)
+EachClient Unfolds clients history =
+    (k : ℕ) (orders : List Order) → slice_get clients k ≡ Some orders → Unfolds orders (mine (k + 1) history)
 
 -- every entry is a client's
 abbrev pub OfClients : List (List Order) → List Entry → Type 0
 OfClients clients history = Each (λ e. (1 ≤ e.caller) × (e.caller ≤ length clients)) history
 
--- a legal history from no document and no session, which holds a beginning of each client's orders, once and in order
-pub record Runs (script : Script) (history : List Entry) : Type 0 where
-  pub legal : Legal nothing script.heads history
+-- one legal history of the script, whose grammars are accepted: a beginning of each client's orders, once and in order,
+-- whose prints show the rounds where the start is sound
+pub record IsHistoryOf (start : OneThread) (script : Script) (history : List Entry) : Type 0 where
+  pub accepted : Each IsAccepted script.heads
+  pub legal : Legal start script.heads history
   pub callers : OfClients script.clients history
   pub begins : EachClient Begins script.clients history
+  pub prints : IsSound start → PrintsRounds start script.heads history
 
 abbrev pub is_refusal : Reply → Bool
 is_refusal (Refused refusal) = true

@@ -1,19 +1,31 @@
--- What a run leaves: one legal history, its lines and its mentions.
-use Rattle.std.specs.Prelude.{◌≡◌, ◌⊎◌, ℕ, ◌<◌, List, [], ◌∷◌, ◌++◌, length, Option, Some, None, true, false}
+-- What a run leaves: one legal history, its lines and its mentions. The start is the object that the history goes on from.
+use Rattle.std.specs.Prelude.{◌≡◌, ◌⊎◌, ℕ, ◌<◌, List, [], ◌∷◌, ◌++◌, length, Option, Some, None, Bool, true, false}
 use Rattle.std.specs.Option.{IfSome}
 use Rattle.std.specs.Io.KnownBytes.{Appends}
 use Rattle.od_pattern.specs.declared.grammar.Head.{Head}
 use Rattle.od_command.specs.declared.history.Entry.{Entry}
 use Rattle.od_order.specs.declared.script.Script.{Script}
+use Rattle.od_session.specs.declared.object.OneThread.{OneThread}
 use Rattle.od_model.specs.declared.status.Status.{Status}
-use Rattle.od_model.specs.declared.status.Status.TheVariants.{Done, Refused, Usage, NoScript, ReadFault, WriteFault, NoMemory}
-use Rattle.od_session.specs.Parts.{nothing}
+use Rattle.od_model.specs.declared.status.Status.TheVariants.{Done, Refused, Usage, NoScript, BadGrammar, ReadFault, WriteFault, NoMemory}
+use Rattle.od_text.specs.Lists.{Each}
+use Rattle.od_session.specs.Parts.{IsAccepted}
 use Rattle.od_model.specs.History.Legal.{state_after}
 use Rattle.od_model.specs.History.Lines.{entry_lines, Lines}
 use Rattle.od_model.specs.History.Orders.{Follows}
-use Rattle.od_model.specs.History.Prints.{PrintsRounds}
 use Rattle.od_order.specs.Thin.{script_of}
-use Rattle.od_model.specs.Run.Clients.{EachClient, Runs, has_refusal}
+use Rattle.od_model.specs.Run.Clients.{EachClient, IsHistoryOf, has_refusal}
+
+-- the bytes outside a run, where they are told
+pub record Outside : Type 0 where
+  -- those that the source had left before the run
+  pub left : Option (List ℕ)
+  -- those that the sink had taken before the run
+  pub before : Option (List ℕ)
+  -- those that the sink has taken after it
+  pub now : Option (List ℕ)
+
+-- ## The script
 
 -- the bytes that a source had are this script, where it tells them
 pub record IsScriptOf (left : Option (List ℕ)) (script : Script) : Type 0 where
@@ -25,52 +37,76 @@ pub record IsScriptOf (left : Option (List ℕ)) (script : Script) : Type 0 wher
 abbrev pub IsNoScript : Option (List ℕ) → Type 0
 IsNoScript left = IfSome left (λ known. script_of known ≡ None)
 
+-- the first head whose grammar is not accepted
+pub record IsFirstRefused (heads : List Head) (head : Head) : Type 0 where
+  pub before : List Head
+  pub since : List Head
+  pub heads_are : heads ≡ before ++ head ∷ since
+  pub accepted : Each IsAccepted before
+  pub refused : IsAccepted head → ⊥
+
+-- the bytes that a source had are a script, and the first of its grammars that is not accepted has this name
+pub record HasBadGrammar (name : List ℕ) (left : Option (List ℕ)) : Type 0 where
+  pub script : Script
+  pub is : IsScriptOf left script
+  pub head : Head
+  pub first : IsFirstRefused script.heads head
+  pub name_is : name ≡ head.name
+
+-- ## The lines
+
+-- the lines of the history were written
+abbrev pub IsWritten : OneThread → List Head → List Entry → Option (List ℕ) → Option (List ℕ) → Type 0
+IsWritten start heads history before now = Appends before now (Lines start heads history)
+
 -- the lines of all entries but the last were written, and a proper prefix of the last one's
-pub record IsCutShort (heads : List Head) (history : List Entry) (before now : Option (List ℕ)) : Type 0 where
+pub record IsCutShort (start : OneThread) (heads : List Head) (history : List Entry) (before now : Option (List ℕ)) : Type 0 where
   pub front : List Entry
   pub last : Entry
   pub history_is : history ≡ front ++ last ∷ []
   pub part : List ℕ
   pub rest : List ℕ
-  pub lines_are : entry_lines (state_after nothing heads front) last ≡ part ++ rest
+  pub lines_are : entry_lines (state_after start heads front) last ≡ part ++ rest
   pub proper : 0 < length rest
-  pub written : Appends before now (Lines nothing heads front ++ part)
+  pub written : Appends before now (Lines start heads front ++ part)
 
--- the lines of the history were written
-abbrev pub IsWritten : List Head → List Entry → Option (List ℕ) → Option (List ℕ) → Type 0
-IsWritten heads history before now = Appends before now (Lines nothing heads history)
+-- ## What each status says
 
--- one legal history of the script, whose prints show the rounds
-pub record Ran (script : Script) (history : List Entry) : Type 0 where
-  pub runs : Runs script history
-  pub prints : PrintsRounds nothing script.heads history
-
--- every client's commands were answered, and the lines written
-pub record RanWhole (script : Script) (history : List Entry) (before now : Option (List ℕ)) : Type 0 where
-  pub ran : Ran script history
+-- the bytes of the source are a script; every client's commands were answered, and the lines written
+pub record IsAnswered (refused : Bool) (start : OneThread) (history : List Entry) (outside : Outside) : Type 0 where
+  pub script : Script
+  pub is : IsScriptOf outside.left script
+  pub history_of : IsHistoryOf start script history
   pub follows : EachClient Follows script.clients history
-  pub written : IsWritten script.heads history before now
+  pub written : IsWritten start script.heads history outside.before outside.now
+  pub refusal : has_refusal history ≡ refused
 
--- what each status says of a script that was run, its history, and the bytes that the sink had before and has now
-abbrev pub RunOutcome : Status → Script → List Entry → Option (List ℕ) → Option (List ℕ) → Type 0
-RunOutcome Done script history before now = RanWhole script history before now × (has_refusal history ≡ false)
-RunOutcome Refused script history before now = RanWhole script history before now × (has_refusal history ≡ true)
-RunOutcome WriteFault script history before now = Ran script history × IsCutShort script.heads history before now
-RunOutcome NoMemory script history before now = Ran script history × IsWritten script.heads history before now
-RunOutcome status script history before now = ⊥
+-- they are a script; some commands were answered, and the lines of the last one are cut short
+pub record IsCutOff (start : OneThread) (history : List Entry) (outside : Outside) : Type 0 where
+  pub script : Script
+  pub is : IsScriptOf outside.left script
+  pub history_of : IsHistoryOf start script history
+  pub cut : IsCutShort start script.heads history outside.before outside.now
 
--- the bytes that the source had are a script, which was run
-abbrev pub RunsScript : Status → List Entry → Option (List ℕ) → Option (List ℕ) → Option (List ℕ) → Type 0
-RunsScript status history left before now = (script : Script) × IsScriptOf left script × RunOutcome status script history before now
+-- they are a script; some commands were answered, and their lines written
+pub record IsLeftOff (start : OneThread) (history : List Entry) (outside : Outside) : Type 0 where
+  pub script : Script
+  pub is : IsScriptOf outside.left script
+  pub history_of : IsHistoryOf start script history
+  pub written : IsWritten start script.heads history outside.before outside.now
 
 -- nothing was answered and nothing written
-abbrev pub DidNothing : List Entry → Option (List ℕ) → Option (List ℕ) → Type 0
-DidNothing history before now = (history ≡ []) × (now ≡ before)
+pub record DidNothing (history : List Entry) (outside : Outside) : Type 0 where
+  pub none : history ≡ []
+  pub same : outside.now ≡ outside.before
 
--- what each status says of the history, of the bytes that the source had, and of those that the sink had before and has now
-abbrev pub Outcome : Status → List Entry → Option (List ℕ) → Option (List ℕ) → Option (List ℕ) → Type 0
-Outcome Usage history left before now = DidNothing history before now
-Outcome NoScript history left before now = DidNothing history before now × IsNoScript left
-Outcome ReadFault history left before now = DidNothing history before now
-Outcome NoMemory history left before now = DidNothing history before now ⊎ RunsScript NoMemory history left before now
-Outcome status history left before now = RunsScript status history left before now
+-- what each status says of the history and of the bytes outside
+abbrev pub Outcome : OneThread → Status → List Entry → Outside → Type 0
+Outcome start Done history outside = IsAnswered false start history outside
+Outcome start Refused history outside = IsAnswered true start history outside
+Outcome start Usage history outside = DidNothing history outside
+Outcome start NoScript history outside = DidNothing history outside × IsNoScript outside.left
+Outcome start (BadGrammar name) history outside = DidNothing history outside × HasBadGrammar name outside.left
+Outcome start ReadFault history outside = DidNothing history outside
+Outcome start WriteFault history outside = IsCutOff start history outside
+Outcome start NoMemory history outside = DidNothing history outside ⊎ IsLeftOff start history outside

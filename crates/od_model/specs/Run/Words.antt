@@ -1,7 +1,7 @@
 -- The program's words, its exit statuses and its diagnostics.
-use Rattle.std.specs.Prelude.{ℕ, List, [], ◌∷◌, Bool, false, bytes_eq, codes}
+use Rattle.std.specs.Prelude.{ℕ, List, [], ◌∷◌, ◌++◌, Bool, false, bytes_eq, codes}
 use Rattle.od_model.specs.declared.status.Status.{Status}
-use Rattle.od_model.specs.declared.status.Status.TheVariants.{Done, Refused, Usage, NoScript, ReadFault, WriteFault, NoMemory}
+use Rattle.od_model.specs.declared.status.Status.TheVariants.{Done, Refused, Usage, NoScript, BadGrammar, ReadFault, WriteFault, NoMemory}
 
 -- the one word `serve`
 abbrev pub is_serve : List (List ℕ) → Bool
@@ -13,6 +13,7 @@ exit_status Done = 0
 exit_status Refused = 1
 exit_status Usage = 2
 exit_status NoScript = 3
+exit_status (BadGrammar name) = 4
 exit_status ReadFault = 7
 exit_status WriteFault = 8
 exit_status NoMemory = 9
@@ -23,6 +24,7 @@ diagnostic Done = []
 diagnostic Refused = []
 diagnostic Usage = codes "odinson: usage: see help\n"
 diagnostic NoScript = codes "odinson: script line 0: Later\n"
+diagnostic (BadGrammar name) = codes "odinson: grammar " ++ name ++ codes ": Later\n"
 diagnostic ReadFault = codes "odinson: read fault\n"
 diagnostic WriteFault = codes "odinson: write fault\n"
 diagnostic NoMemory = codes "odinson: no memory\n"
