@@ -4,7 +4,7 @@ ghost use Rattle.od_session.specs.Parts.{session_of};
 ghost use Rattle.od_model.specs.History.Lines.{entry_lines, lines_before, lines_of_session};
 
 use od_command::history::{Command, Entry, Reply};
-use od_desk::store::Store;
+use od_workspace::workspace::Store;
 use od_lines::{entry_line, session_lines};
 use od_text::text::{Bytes, NoMemory, Text};
 use std::alloc::Global;

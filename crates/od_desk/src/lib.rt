@@ -1,5 +1,0 @@
-//! Documents and sessions as they are kept.
-#![tactic(auto)]
-
-mod names;
-pub mod store;
