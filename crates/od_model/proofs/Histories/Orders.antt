@@ -1,7 +1,11 @@
 -- Laws of orders and their entries.
-use Rattle.std.proofs.Common.{◌≡◌, ℕ, List, [], ◌∷◌, ◌++◌, refl, ap, ◌∙◌, subst, inl, inr, append_assoc, append-nil}
+use Rattle.std.proofs.Common.{◌≡◌, ℕ, List, [], ◌∷◌, ◌++◌, refl, ap, ◌∙◌, subst, inl, inr, ◌⊎◌, append_assoc, append-nil}
 use Rattle.od_command.specs.declared.history.Command.{Command}
 use Rattle.od_command.specs.declared.history.Command.TheVariants.{Step}
+use Rattle.od_command.specs.declared.history.Reply.{Reply}
+use Rattle.od_command.specs.declared.history.Reply.TheVariants.{Stepped}
+use Rattle.od_extraction.specs.declared.phase.Phase.{Phase}
+use Rattle.od_extraction.specs.declared.phase.Phase.TheVariants.{Going, Finished, AtLimit}
 use Rattle.od_order.specs.declared.script.Order.{Order}
 use Rattle.od_order.specs.declared.script.Order.TheVariants.{One, Run}
 use Rattle.od_command.specs.declared.history.Entry.{Entry}
@@ -44,3 +48,21 @@ Follows-begins os ps es h = rw append-nil at (Begins-after os ps es [] h (Begins
 
 pub Follows-begun : (os : List Order) (es : List Entry) → Follows os es → Begins os es
 Follows-begun os es h = subst (λ (l : List Order). Begins l es) (append-nil os) (Follows-begins os [] es h)
+
+-- more orders, of which nothing was done
+pub Begins-more : (os ps : List Order) (es : List Entry) → Begins os es → Begins (os ++ ps) es
+Begins-more [] ps es h = rw h (Begins-none ps)
+Begins-more (One command ∷ os) ps es (inl h) = inl h
+Begins-more (One command ∷ os) ps es (inr h) = inr (record { going = h.going; last = h.last; more = h.more; es_are = h.es_are; first = h.first; then_rest = Begins-more os ps h.more h.then_rest })
+Begins-more (Run s ∷ os) ps es (inl h) = inl h
+Begins-more (Run s ∷ os) ps es (inr h) = inr (record { going = h.going; last = h.last; more = h.more; es_are = h.es_are; first = h.first; then_rest = Begins-more os ps h.more h.then_rest })
+
+same-phase : (p : Phase) → (p ≡ Going) ⊎ (p ≡ Going → ⊥)
+same-phase Going = inl refl
+same-phase Finished = inr (λ e. cc)
+same-phase AtLimit = inr (λ e. cc)
+
+-- a run goes on after a reply, or it does not
+pub goes-or-ends : (reply : Reply) → GoesOn reply ⊎ (GoesOn reply → ⊥)
+goes-or-ends (Stepped round added phase) = same-phase phase
+goes-or-ends reply = inr (λ h. h)
