@@ -102,6 +102,7 @@ impl<W: Sink> Desk<W> {
     ghost use Rattle.od_model.specs.History.Legal.{mine};
     ghost use Rattle.od_model.specs.History.Orders.{GoesOn};
     ghost use Rattle.od_desk.specs.Desks.{taken, opened_desk, IsDesk};
+    ghost use Rattle.od_desk.specs.Stops.{is_cut};
     ghost use Rattle.od_desk.specs.Further.{OneMore, AtMostOne, Climbs};
 
     /// A desk with no document and no session.
@@ -142,7 +143,7 @@ impl<W: Sink> Desk<W> {
         ensures climbs { IfOk result (λ goes. (name : Seq ℕ) → command ≡ Command.Step name → IsTrue goes → Climbs name self.old.object self.new.object) }
         ensures part { OnErr result (AtMostOne caller command self.old.history self.new.history) }
         ensures kept { IsErrOf result Stop.NoMemory → self.new.history ≡ self.old.history }
-        ensures cut { (self.new.cut ≡ true) ↔ IsErrOf result Stop.WriteFault }
+        ensures cut { self.new.cut ≡ is_cut result }
     {
         let answer = self
             .workspace

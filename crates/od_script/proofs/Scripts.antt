@@ -7,7 +7,8 @@ use Rattle.std.proofs.Math.Nat.{pow-suc}
 use Rattle.std.proofs.Math.Seq.{take-append_seam, drop-append_seam}
 use Rattle.std.proofs.lemmas.Bool.{lt-ltb, le-ltb, ne_eqb}
 use Rattle.std.proofs.lemmas.List.Splits.{join_with_byte-slice_split}
-use Rattle.od_order.specs.Thin.{is_digit, is_name_byte, is_name, digits_from, parts_of, block_of, doc_words, open_words, is_command, script_with, script_opened, script_behind}
+use Rattle.od_order.specs.Names.{is_digit, is_name_byte, is_name, digits_from}
+use Rattle.od_order.specs.Thin.{parts_of, block_of, doc_words, open_words, is_command, script_with, script_opened, script_behind}
 use Rattle.od_language.specs.Query.{words_of}
 use Rattle.od_pattern.specs.declared.grammar.Head.{Head}
 use Rattle.od_order.specs.declared.script.Script.{Script}

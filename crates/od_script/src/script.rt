@@ -17,7 +17,8 @@ ghost use Rattle.std.specs.Option.{option_map};
 ghost use Rattle.std.specs.Str.{IsAscii, bytes_eq};
 ghost use Rattle.od_pattern.specs.declared.grammar.Head.{Head as HeadOf};
 ghost use Rattle.od_language.specs.Query.{words_of};
-ghost use Rattle.od_order.specs.Thin.{is_name_byte, is_name, digits_from, number_of, parts_of, query_line, doc_words, open_words, script_behind, script_of};
+ghost use Rattle.od_order.specs.Names.{is_name_byte, is_name, digits_from, script_number};
+ghost use Rattle.od_order.specs.Thin.{parts_of, query_line, doc_words, open_words, script_behind, script_of};
 ghost use Rattle.od_script.specs.Scripts.{head_shown, count_shown, opened, orders_shown, head_of, script_shown, IsBlock};
 
 use od_command::history::Command;
@@ -120,7 +121,7 @@ fn digits(text: &[u8]) -> Option<u32>
 
 /// The number, where the text is one: `0`, or up to 9 digits without a leading zero.
 fn number(text: &[u8]) -> Option<u32>
-    ensures { result ≡ number_of text.now }
+    ensures { result ≡ script_number text.now }
 {
     if text.len() == 0 || NUMBER_DIGITS < text.len() {
         return None;

@@ -8,8 +8,8 @@ use Rattle.od_model.specs.History.Legal.{mine}
 use Rattle.od_model.specs.History.Orders.{Begins}
 use Rattle.od_model.specs.Run.Clients.{EachClient, OfClients}
 use Rattle.od_text.proofs.Lists.{Each-append}
-use Rattle.od_model.proofs.Histories.Callers.{AreOf, EachFrom, EachFrom-append, EachFrom-later, EachFrom-none, each-client, mine-next, mine-new}
-use Rattle.od_serve.specs.Running.Told.{GoesFurther}
+use Rattle.od_model.proofs.Histories.Callers.{AreOf, EachFrom, EachFrom-append, EachFrom-later, EachFrom-none, each-client, mine-new}
+use Rattle.od_desk.specs.Further.{Unfolded, Alone}
 
 -- the callers of the entries are numbered from 1 up to a number
 abbrev pub CallersTo : ℕ → List Entry → Type 0
@@ -26,29 +26,32 @@ wider : (a b : ℕ) (es : List Entry) → a ≤ b → CallersTo a es → Callers
 wider a b [] h k = tt
 wider a b (e ∷ es) h k = ((k.0.0, let few = k.0.1 in omega (arith, few, h)), wider a b es h k.1)
 
-pub callers-more : (U : List Order → List Entry → Type 0) (caller : ℕ) (done : List (List Order)) (orders : List Order) (old new : List Entry) → caller ≡ length done + 1 → CallersTo (length done) old → GoesFurther U caller orders old new → CallersTo (length (done ++ orders ∷ [])) new
-callers-more U caller done orders old new is h (more, k) =
+pub callers-more : (caller : ℕ) (done : List (List Order)) (orders : List Order) (old new : List Entry) → caller ≡ length done + 1 → CallersTo (length done) old → Alone caller old new → CallersTo (length (done ++ orders ∷ [])) new
+callers-more caller done orders old new is h k =
     let long : length (done ++ orders ∷ []) ≡ length done + 1 = length-append done (orders ∷ []) in
     subst (CallersTo (length (done ++ orders ∷ []))) (sym k.new_is)
-    (Each-append (λ e. (1 ≤ e.caller) × (e.caller ≤ length (done ++ orders ∷ []))) old more
+    (Each-append (λ e. (1 ≤ e.caller) × (e.caller ≤ length (done ++ orders ∷ []))) old k.more
     (wider (length done) (length (done ++ orders ∷ [])) old (omega (arith, long)) h)
-    (callers-to caller (length (done ++ orders ∷ [])) more (omega (arith, is)) (omega (arith, is, long)) k.callers))
+    (callers-to caller (length (done ++ orders ∷ [])) k.more (omega (arith, is)) (omega (arith, is, long)) k.callers))
 
-pub clients-more : (U : List Order → List Entry → Type 0) (caller : ℕ) (done : List (List Order)) (orders : List Order) (old new : List Entry) → caller ≡ length done + 1 → CallersTo (length done) old → EachFrom U 0 done old → GoesFurther U caller orders old new → EachFrom U 0 (done ++ orders ∷ []) new
-clients-more U caller done orders old new is h each (more, k) =
-    let same : length done + 1 ≡ caller = sym is in
-    let own : mine (length done + 1) (old ++ more) ≡ more = ap (λ n. mine n (old ++ more)) same ∙ mine-next caller (length done) old more (omega (arith, is)) h k.callers in
-    subst (EachFrom U 0 (done ++ orders ∷ [])) (sym k.new_is)
-    (EachFrom-append U 0 (length done) done (orders ∷ []) (old ++ more) (omega arith)
-    (EachFrom-later U 0 caller done old more (omega (arith, is)) k.callers each)
-    (subst (λ l. U orders l) (sym own) k.unfolds, tt))
+-- all entries of a caller that had none are its further ones
+own-whole : (U : List Order → List Entry → Type 0) (caller : ℕ) (orders : List Order) (old new : List Entry) → mine caller old ≡ [] → Unfolded U caller orders old new → U orders (mine caller new)
+own-whole U caller orders old new fresh h = subst (U orders) (sym (h.own_are ∙ ap (λ l. l ++ h.own) fresh)) h.holds
+
+pub clients-more : (U : List Order → List Entry → Type 0) (caller : ℕ) (done : List (List Order)) (orders : List Order) (old new : List Entry) → caller ≡ length done + 1 → CallersTo (length done) old → EachFrom U 0 done old → Alone caller old new → Unfolded U caller orders old new → EachFrom U 0 (done ++ orders ∷ []) new
+clients-more U caller done orders old new is h each k own =
+    let same : caller ≡ length done + 1 = is in
+    let whole : U orders (mine (length done + 1) new) = subst (λ n. U orders (mine n new)) same (own-whole U caller orders old new (fresh-caller caller done old is h) own) in
+    EachFrom-append U 0 (length done) done (orders ∷ []) new (omega arith)
+    (subst (EachFrom U 0 done) (sym k.new_is) (EachFrom-later U 0 caller done old k.more (omega (arith, is)) k.callers each))
+    (whole, tt)
 
 -- the clients after those that were run have no entry
-pub clients-cut : (caller : ℕ) (done : List (List Order)) (orders : List Order) (rest : List (List Order)) (old new : List Entry) → caller ≡ length done + 1 → CallersTo (length done) old → EachFrom Begins 0 done old → GoesFurther Begins caller orders old new
+pub clients-cut : (caller : ℕ) (done : List (List Order)) (orders : List Order) (rest : List (List Order)) (old new : List Entry) → caller ≡ length done + 1 → CallersTo (length done) old → EachFrom Begins 0 done old → Alone caller old new → Unfolded Begins caller orders old new
     → EachClient Begins ((done ++ orders ∷ []) ++ rest) new
-clients-cut caller done orders rest old new is h each further =
-    let front = clients-more Begins caller done orders old new is h each further in
-    let callers = callers-more Begins caller done orders old new is h further in
+clients-cut caller done orders rest old new is h each alone own =
+    let front = clients-more Begins caller done orders old new is h each alone own in
+    let callers = callers-more caller done orders old new is h alone in
     let n : ℕ = length (done ++ orders ∷ []) in
     each-client Begins ((done ++ orders ∷ []) ++ rest) new
     (EachFrom-append Begins 0 n (done ++ orders ∷ []) rest new (omega arith) front (EachFrom-none n n rest new (omega arith) callers))

@@ -1,4 +1,5 @@
 -- The lemmas of this crate.
 pub mod ClientLemmas
 pub mod Outcomes
-pub mod Telling
+pub mod Pieces
+pub mod Steps

@@ -1,44 +1,78 @@
 -- How a run ends.
-use Rattle.std.proofs.Common.{◌≡◌, ℕ, ◌<◌, List, [], length, Option, Some, None, if◌then◌else◌, ap, lt-ltb}
+use Rattle.std.proofs.Common.{◌≡◌, ◌⊎◌, ℕ, ◌<◌, List, [], length, Option, Some, None, Result, Ok, Err, Bool, true, false, if◌then◌else◌, refl, ap, subst, inl, inr, lt-ltb}
+use Rattle.std.specs.Prelude.{is_err, IfOk, IsTrue}
 use Rattle.std.specs.Option.{IfSome}
-use Rattle.od_pattern.specs.declared.grammar.Head.{Head}
 use Rattle.od_command.specs.declared.history.Entry.{Entry}
 use Rattle.od_order.specs.declared.script.Script.{Script}
-use Rattle.od_text.specs.Lists.{Each}
+use Rattle.od_order.specs.declared.script.TheConstants.{SCRIPT_BYTES}
+use Rattle.od_io.specs.declared.streams.Failed.{Failed}
+use Rattle.od_model.specs.declared.status.Status.{Status}
+use Rattle.od_model.specs.declared.status.Status.TheVariants.{NoScript, BadGrammar, ReadFault, NoMemory}
 use Rattle.od_session.specs.Parts.{nothing}
-use Rattle.od_model.specs.History.Legal.{Legal}
 use Rattle.od_model.specs.History.Orders.{Follows, Begins}
-use Rattle.od_order.specs.Runnable.{IsQuery}
-use Rattle.od_model.specs.Run.Clients.{EachClient, OfClients}
-use Rattle.od_model.specs.Run.Outcome.{Ran, RanWhole}
+use Rattle.od_model.specs.Run.Clients.{EachClient, OfClients, IsHistoryOf, has_refusal}
+use Rattle.od_model.specs.Run.Ends.{CanEndSo}
+use Rattle.od_model.specs.Run.Outcome.{Outcome, Outside, DidNothing, IsNoScript, IsScriptOf, IsWritten, IsCutShort}
 use Rattle.od_model.proofs.Histories.Prints.{prints-rounds}
-use Rattle.od_model.proofs.Histories.Sound.{sound-nothing}
-use Rattle.od_model.proofs.Runnable.{accepted-of}
-use Rattle.od_session.specs.declared.object.OneThread.{OneThread}
-use Rattle.od_order.specs.Thin.{script_of, script_in, parts_of, most_bytes}
-use Rattle.od_model.specs.Run.Outcome.{IsNoScript}
-use Rattle.od_serve.specs.Running.Told.{IsTold, IsReached}
-use Rattle.od_serve.proofs.Telling.{reached-none}
+use Rattle.od_order.specs.Thin.{script_of, script_in, parts_of}
+use Rattle.od_desk.specs.Desks.{Taken, Origin, DeskState, AreLines, IsDesk}
+use Rattle.od_serve.specs.Running.Ends.{RunOutcome, NeverBegan, run_status}
 
--- a legal history of the script's clients: its prints show the rounds
-pub ran : (script : Script) (history : List Entry) → Each IsQuery script.heads → Legal nothing script.heads history → OfClients script.clients history → EachClient Begins script.clients history → Ran script history
-ran script history queries legal callers begins = record {
-  runs = record { legal = legal; callers = callers; begins = begins };
-  prints = prints-rounds nothing script.heads history sound-nothing (accepted-of script.heads queries) legal;
-}
+-- the history of a desk that began with a script's grammars, and its clients' entries
+pub history-of : (script : Script) (d : DeskState) → d.origin.heads ≡ script.heads → IsDesk d → OfClients script.clients d.history → EachClient Begins script.clients d.history → IsHistoryOf d.origin.start script d.history
+history-of script d heads desk callers begins = rw (← heads) (record {
+  accepted = desk.accepted;
+  legal = desk.legal;
+  callers = callers;
+  begins = begins;
+  prints = λ sound. prints-rounds d.origin.start d.origin.heads d.history sound desk.accepted desk.legal;
+})
 
-pub ran-whole : (script : Script) (history : List Entry) (before now : Option (List ℕ)) → Each IsQuery script.heads → IsTold script.heads history before now → OfClients script.clients history → EachClient Begins script.clients history → EachClient Follows script.clients history → RanWhole script history before now
-ran-whole script history before now queries told callers begins follows = record { ran = ran script history queries told.legal callers begins; follows = follows; written = told.written }
+module _ (script : Script) (d : DeskState) (left : Option (List ℕ)) (is : IsScriptOf left script) (heads : d.origin.heads ≡ script.heads)
+    (desk : IsDesk d) (callers : OfClients script.clients d.history) (begins : EachClient Begins script.clients d.history) where
+  abbrev Ended : Status → Type 0
+  Ended status = Outcome d.origin.start status d.history (record { left = left; before = d.origin.sink.bytes; now = d.sink.bytes })
+
+  lines-at : (cut : Bool) → d.cut ≡ cut → AreLines cut d.origin d.history d.sink.bytes
+  lines-at cut e = subst (λ b. AreLines b d.origin d.history d.sink.bytes) e desk.lines
+
+  written : d.cut ≡ false → IsWritten d.origin.start script.heads d.history d.origin.sink.bytes d.sink.bytes
+  written e = subst (λ hs. IsWritten d.origin.start hs d.history d.origin.sink.bytes d.sink.bytes) heads (lines-at false e)
+
+  -- every command was answered
+  answered : EachClient Follows script.clients d.history → d.cut ≡ false → (refused : Bool) → has_refusal d.history ≡ refused → Ended (run_status (Ok true) refused)
+  answered follows whole true refused = record { script = script; is = is; history_of = history-of script d heads desk callers begins; follows = follows; written = written whole; refusal = refused }
+  answered follows whole false refused = record { script = script; is = is; history_of = history-of script d heads desk callers begins; follows = follows; written = written whole; refusal = refused }
+
+  -- how a run ended, by its clients
+  pub ended : (followed : Result Bool Failed) → IfOk followed (λ whole. IsTrue whole → EachClient Follows script.clients d.history) → d.cut ≡ is_err followed → Ended (run_status followed (has_refusal d.history))
+  ended (Ok true) follows cut = answered (follows refl) cut (has_refusal d.history) refl
+  ended (Ok false) follows cut = inr (record { script = script; is = is; history_of = history-of script d heads desk callers begins; written = written cut })
+  ended (Err failed) follows cut = record {
+    script = script;
+    is = is;
+    history_of = history-of script d heads desk callers begins;
+    cut = subst (λ hs. IsCutShort d.origin.start hs d.history d.origin.sink.bytes d.sink.bytes) heads (lines-at true cut);
+  }
+
+-- a run that never began says nothing but why
+pub unrun : (status : Status) (left now : Option (List ℕ)) → NeverBegan left status → RunOutcome status [] (record { left = left; before = now; now = now })
+unrun NoScript left now h = (record { none = refl; same = refl }, h)
+unrun (BadGrammar name) left now h = (record { none = refl; same = refl }, h)
+unrun ReadFault left now h = record { none = refl; same = refl }
+unrun NoMemory left now h = inl (record { none = refl; same = refl })
+unrun status left now h = absurd h
 
 -- too many bytes are no script
-long-no-script : (bytes : List ℕ) → most_bytes < length bytes → script_of bytes ≡ None
+long-no-script : (bytes : List ℕ) → SCRIPT_BYTES < length bytes → script_of bytes ≡ None
 unfolding script_of
-long-no-script bytes h = ap (λ b. if b then None else script_in (parts_of bytes)) (lt-ltb most_bytes (length bytes) h)
+long-no-script bytes h = ap (λ b. if b then None else script_in (parts_of bytes)) (lt-ltb SCRIPT_BYTES (length bytes) h)
 
-pub long-is-no-script : (left : Option (List ℕ)) → IfSome left (λ known. 67108864 < length known) → IsNoScript left
+pub long-is-no-script : (left : Option (List ℕ)) → IfSome left (λ known. SCRIPT_BYTES < length known) → IsNoScript left
 long-is-no-script None h = tt
 long-is-no-script (Some known) h = long-no-script known h
 
--- before the first command
-pub reached-start : (heads : List Head) (history : List Entry) (object : OneThread) (now : Option (List ℕ)) → history ≡ [] → object ≡ nothing → IsReached heads history object now now
-reached-start heads history object now h k = rw (h, k) (reached-none heads now)
+-- what follows for each value follows for the one of a result
+pub ok-weaker : {X E : Type 0} (result : Result X E) (P Q : X → Type 0) → ((x : X) → P x → Q x) → IfOk result P → IfOk result Q
+ok-weaker (Ok x) P Q f h = f x h
+ok-weaker (Err e) P Q f h = tt

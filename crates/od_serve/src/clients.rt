@@ -1,85 +1,63 @@
 //! The clients of a script, run one after another.
-ghost use Rattle.std.specs.Prelude.{◌≡◌, ℕ, ◌+◌, ◌<◌, ◌≤◌, List as Seq, [], length, Option, IfOk, OnOk, OnErr, IsTrue};
-ghost use Rattle.od_io.specs.Streams.Count.{Rose};
+ghost use Rattle.std.specs.Prelude.{◌≡◌, ◌≤◌, List as Seq, [], length, false, is_err, IfOk, IsTrue};
 ghost use Rattle.od_order.specs.declared.script.Order.{Order as SpecOrder};
+ghost use Rattle.od_order.specs.declared.script.TheConstants.{CLIENTS, CLIENT_ORDERS};
 ghost use Rattle.od_text.specs.Lists.{Each};
-ghost use Rattle.od_session.specs.Parts.{nothing};
-ghost use Rattle.od_model.specs.History.Legal.{Legal, mine};
+ghost use Rattle.od_model.specs.History.Legal.{mine};
 ghost use Rattle.od_model.specs.History.Orders.{Follows, Begins};
-ghost use Rattle.od_order.specs.Runnable.{IsQuery};
 ghost use Rattle.od_model.specs.Run.Clients.{EachClient, OfClients};
-ghost use Rattle.od_model.specs.Run.Outcome.{IsCutShort};
-ghost use Rattle.od_serve.specs.Running.Told.{IsTold, IsReached, GoesFurther};
+ghost use Rattle.od_desk.specs.Further.{Alone};
+ghost use Rattle.od_serve.specs.Running.Went.{WentFar};
 
-use crate::run::{Stop, run_client};
-use od_command::history::Entry;
-use od_workspace::workspace::Store;
+use crate::run::run_client;
+use od_desk::desk::{Desk, Stop};
 use od_io::{Failed, Sink};
 use od_order::script::Order;
-use od_pattern::grammar::Head;
 use od_text::list::List;
 use std::alloc::Global;
 
-/// Follows a client's orders as far as there is memory, and gives whether that is to their end. Only a write that failed ends the others too.
+/// Follows a client's orders as far as there is memory, and gives whether that is to their end. Only a write that failed ends
+/// the others too.
 fn run_as_far<W: Sink>(
     alloc: Global,
-    heads: &[Head],
-    store: &mut Store,
-    history: &mut Vec<Entry>,
-    sink: &mut W,
+    desk: &mut Desk<W>,
     caller: u32,
     orders: List<Order>,
 ) -> Result<bool, Failed>
-    ghost before: { Option (Seq ℕ) }
-    requires accepted { Each IsQuery heads.now }
-    requires reached { IsReached heads.now history.old.items store.old before (W.written sink.old) }
-    requires fresh { mine caller history.old.items ≡ [] }
-    requires few { length orders ≤ 10000 }
-    ensures reached { OnOk result (IsReached heads.now history.new.items store.new before (W.written sink.new)) }
-    ensures begun { GoesFurther Begins caller orders history.old.items history.new.items }
-    ensures followed { IfOk result (λ whole. IsTrue whole → GoesFurther Follows caller orders history.old.items history.new.items) }
-    ensures cut { OnErr result (Legal nothing heads.now history.new.items × IsCutShort heads.now history.new.items before (W.written sink.new)) }
-    ensures failed { OnErr result (Rose (W.faults sink.old) (W.faults sink.new)) }
-    ensures later { W.faults sink.old ≤ W.faults sink.new }
+    requires whole { desk.old.cut ≡ false }
+    requires fresh { mine caller desk.old.history ≡ [] }
+    requires few { length orders ≤ CLIENT_ORDERS }
+    ensures went { WentFar caller orders result desk.old desk.new }
+    ensures alone { Alone caller desk.old.history desk.new.history }
 {
-    match run_client(alloc, heads, store, history, sink, caller, orders) {
+    match run_client(alloc, desk, caller, orders) {
         Ok(()) => Ok(true),
         Err(Stop::NoMemory) => Ok(false),
         Err(Stop::WriteFault) => Err(Failed),
     }
 }
 
-/// Follows each client's orders, the first client being caller 1, and gives whether all were followed to their end. A client for which memory
-/// is refused ends there, and the others go on; after a write that failed nobody does.
+/// Follows each client's orders, the first client being caller 1, and gives whether all were followed to their end. A client for
+/// which memory is refused ends there, and the others go on; after a write that failed nobody does.
 pub fn run_clients<W: Sink>(
     alloc: Global,
-    heads: &[Head],
-    store: &mut Store,
-    history: &mut Vec<Entry>,
-    sink: &mut W,
+    desk: &mut Desk<W>,
     clients: List<List<Order>>,
 ) -> Result<bool, Failed>
-    ghost before: { Option (Seq ℕ) }
-    requires accepted { Each IsQuery heads.now }
-    requires empty { history.old.items ≡ [] }
-    requires reached { IsReached heads.now history.old.items store.old before (W.written sink.old) }
-    requires few { length clients ≤ 8 }
-    requires short { Each (λ (orders : Seq SpecOrder). length orders ≤ 10000) clients }
-    ensures told { OnOk result (IsTold heads.now history.new.items before (W.written sink.new)) }
-    ensures callers { OfClients clients history.new.items }
-    ensures follows { IfOk result (λ whole. IsTrue whole → EachClient Follows clients history.new.items) }
-    ensures begins { EachClient Begins clients history.new.items }
-    ensures cut { OnErr result (Legal nothing heads.now history.new.items × IsCutShort heads.now history.new.items before (W.written sink.new)) }
-    ensures failed { OnErr result (Rose (W.faults sink.old) (W.faults sink.new)) }
-    ensures later { W.faults sink.old ≤ W.faults sink.new }
+    requires whole { desk.old.cut ≡ false }
+    requires empty { desk.old.history ≡ [] }
+    requires few { length clients ≤ CLIENTS }
+    requires short { Each (λ (orders : Seq SpecOrder). length orders ≤ CLIENT_ORDERS) clients }
+    ensures origin { desk.new.origin ≡ desk.old.origin }
+    ensures callers { OfClients clients desk.new.history }
+    ensures follows { IfOk result (λ whole. IsTrue whole → EachClient Follows clients desk.new.history) }
+    ensures begins { EachClient Begins clients desk.new.history }
+    ensures cut { desk.new.cut ≡ is_err result }
 {
     let mut caller: u32 = 1;
     let mut whole = true;
     'clients: for orders in clients.into_vec() {
-        match run_as_far(alloc, heads, store, history, sink, caller, orders) {
-            Ok(followed) => whole &= followed,
-            Err(failed) => return Err(failed),
-        }
+        whole &= run_as_far(alloc, desk, caller, orders)?;
         caller += 1;
     }
     Ok(whole)

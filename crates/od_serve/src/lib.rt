@@ -6,8 +6,8 @@ mod clients;
 mod examples;
 mod run;
 mod serve;
-mod shown;
 #[cfg(test)]
 mod tests;
+mod warn;
 
 pub use serve::{Ended, is_serve, odinson};

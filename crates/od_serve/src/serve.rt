@@ -1,34 +1,37 @@
 //! The top call: words, a source and two sinks in, a status and the history out.
-ghost use Rattle.std.specs.Prelude.{◌≡◌, ◌↔◌, ◌⊎◌, Bool, true, false, ℕ, ◌<◌, ◌≤◌, List as Seq, [], length, map, string_bytes, Option, IsTrue};
-ghost use Rattle.std.specs.Io.KnownBytes.{Appends, IsAtEnd};
+ghost use Rattle.std.specs.Prelude.{◌≡◌, ◌↔◌, ◌⊎◌, true, false, None, ◌≤◌, [], map, string_bytes, option_map, Option, List as Seq, ℕ, IfOk, IfErr};
+ghost use Rattle.std.specs.Io.KnownBytes.{IsAtEnd};
 ghost use Rattle.od_io.specs.Streams.Count.{Rose};
-ghost use Rattle.od_io.specs.Streams.Writing.{AppendsUpToFault};
-ghost use Rattle.od_model.specs.Run.Clients.{has_refusal};
-ghost use Rattle.od_model.specs.Run.Ends.{Answered, CanEndSo, EndsWith};
-ghost use Rattle.od_model.specs.Run.Outcome.{Outcome, RunOutcome, IsNoScript, RunsScript};
-ghost use Rattle.od_model.specs.Run.Words.{is_serve, exit_status, diagnostic};
-ghost use Rattle.od_order.specs.Runnable.{IsRunnable};
+ghost use Rattle.od_pattern.specs.declared.grammar.Head.{Head as SpecHead};
+ghost use Rattle.od_session.specs.Parts.{first_refused};
+ghost use Rattle.od_model.specs.Run.Clients.{IsRunnable, has_refusal};
+ghost use Rattle.od_model.specs.Run.Ends.{Answered, CanEndSo, HasStatus};
+ghost use Rattle.od_model.specs.Run.Outcome.{IsScriptOf};
+ghost use Rattle.od_model.specs.Run.Words.{is_serve};
+ghost use Rattle.od_serve.specs.Running.Ends.{RunOutcome, NeverBegan, Ran, run_status, Ends};
 
 use crate::clients::run_clients;
+use crate::warn::{exit_status, warn};
 use od_command::history::{Entry, Reply};
-use od_workspace::workspace::Store;
-use od_io::{ReadAll, Sink, Source, read_all, write_whole};
+use od_desk::desk::Desk;
+use od_io::{Failed, ReadAll, Sink, Source, read_all};
 use od_model::status::Status;
-use od_order::script::Script;
+use od_order::script::{SCRIPT_BYTES, Script};
+use od_pattern::grammar::Head;
 use od_script::{ScriptFault, read_script};
+use od_text::text::{Copied, NoMemory, Text};
+use od_workspace::workspace::heads::first_refused;
 use std::alloc::Global;
 
 #[cfg(test)]
 mod tests;
 
-/// The most bytes that a script may have: 64 MiB.
-const MOST_BYTES: usize = 67108864;
-
 /// How the top call ended.
 #[derive(Drop)]
 pub struct Ended<S, W, E> {
     /// The exit status: 0 where every command was answered and none refused, 1 where some were refused, 2 for other words
-    /// than the program's, 3 where the input is no script, 7 where a read failed, 8 where a write did, 9 where memory was refused.
+    /// than the program's, 3 where the input is no script, 4 where one of its grammars is not accepted, 7 where a read failed,
+    /// 8 where a write did, 9 where memory was refused.
     pub status: u8,
     /// The answered commands, in the order of their answers. With status 8 the lines of the last one are cut short.
     pub history: Vec<Entry>,
@@ -38,6 +41,14 @@ pub struct Ended<S, W, E> {
     pub sink: W,
     /// The diagnostic sink, with the status's line from 2 on.
     pub diag: E,
+}
+
+/// How a run ended: its status, the answered commands, and the sink.
+#[derive(Drop)]
+struct Run<W> {
+    status: Status,
+    history: Vec<Entry>,
+    sink: W,
 }
 
 /// Whether the words are those of `serve`.
@@ -59,22 +70,11 @@ fn has_refusal(history: &[Entry]) -> bool
         .any(|entry| matches!(entry.reply, Reply::Refused(_)))
 }
 
-/// Runs a script's clients one after another, over no document and no session.
-fn run_script<W: Sink>(
-    alloc: Global,
-    script: Script,
-    sink: &mut W,
-    history: &mut Vec<Entry>,
-) -> Status
-    requires runnable { IsRunnable script }
-    requires empty { history.old.items ≡ [] }
-    ensures outcome { RunOutcome result script history.new.items (W.written sink.old) (W.written sink.new) }
-    ensures write { result ≡ Status.WriteFault → Rose (W.faults sink.old) (W.faults sink.new) }
-    ensures later { W.faults sink.old ≤ W.faults sink.new }
+/// How a run ended whose clients were followed to their end, or not, or whose sink failed.
+fn run_status(followed: Result<bool, Failed>, history: &[Entry]) -> Status
+    ensures { result ≡ run_status followed (has_refusal history.now) }
 {
-    let Script { heads, clients } = script;
-    let mut store = Store::new(alloc);
-    match run_clients(alloc, heads.get(), &mut store, history, sink, clients) {
+    match followed {
         Ok(true) => {
             if has_refusal(history) {
                 Status::Refused
@@ -87,85 +87,103 @@ fn run_script<W: Sink>(
     }
 }
 
-/// Reads the source to its end, and the script in its bytes, and runs it.
-fn serve<S: Source, W: Sink>(
-    alloc: Global,
-    source: &mut S,
-    sink: &mut W,
-    history: &mut Vec<Entry>,
-) -> Status
-    requires empty { history.old.items ≡ [] }
-    ensures outcome { Outcome result history.new.items (S.left source.old) (W.written sink.old) (W.written sink.new) }
-    ensures not_usage { result ≡ Status.Usage → ⊥ }
-    ensures end { Answered result → IsAtEnd (S.left source.new) }
-    ensures read { result ≡ Status.ReadFault → Rose (S.faults source.old) (S.faults source.new) }
-    ensures write { result ≡ Status.WriteFault → Rose (W.faults sink.old) (W.faults sink.new) }
-    ensures complete { (Rose (S.faults source.old) (S.faults source.new) → ⊥) → (Rose (W.faults sink.old) (W.faults sink.new) → ⊥) → CanEndSo result (S.left source.old) }
-    ensures source_later { S.faults source.old ≤ S.faults source.new }
-    ensures sink_later { W.faults sink.old ≤ W.faults sink.new }
+/// Runs a script's clients one after another, over no document and no session.
+fn run_script<W: Sink>(alloc: Global, script: Script, sink: W) -> Run<W>
+    requires runnable { IsRunnable script }
+    requires accepted { first_refused script.heads ≡ None }
+    ensures outcome { (left : Option (Seq ℕ)) → IsScriptOf left script → RunOutcome result.status result.history.items
+        (record { left = left; before = W.written sink; now = W.written result.sink }) }
+    ensures ran { Ran result.status }
+    ensures write { result.status ≡ Status.WriteFault → Rose (W.faults sink) (W.faults result.sink) }
+    ensures later { W.faults sink ≤ W.faults result.sink }
 {
-    let bytes = match read_all(alloc, source, MOST_BYTES) {
+    let Script { heads, clients } = script;
+    let mut desk = Desk::new(alloc, heads, sink);
+    let followed = run_clients(alloc, &mut desk, clients);
+    let (history, sink) = desk.close();
+    Run {
+        status: run_status(followed, &history),
+        history,
+        sink,
+    }
+}
+
+/// The name of the first grammar that is not accepted, if there is one.
+fn refused_name(alloc: Global, heads: &[Head]) -> Result<Option<Text>, NoMemory>
+    ensures { IfOk result (λ name. name ≡ option_map (λ (head : SpecHead). head.name) (first_refused heads.now)) }
+{
+    match first_refused(heads) {
+        None => Ok(None),
+        Some(head) => Ok(Some(head.name.copy(alloc)?)),
+    }
+}
+
+/// The script, where all of its grammars are accepted.
+fn accept(alloc: Global, script: Script) -> Result<Script, Status>
+    ensures accepted { IfOk result (λ same. (same ≡ script) × (first_refused script.heads ≡ None)) }
+    ensures refused { (left : Option (Seq ℕ)) → IsScriptOf left script → IfErr result (NeverBegan left) }
+    ensures not_read { IfErr result (λ status. status ≡ Status.ReadFault → ⊥) }
+{
+    match refused_name(alloc, script.heads.get()) {
+        Ok(None) => Ok(script),
+        Ok(Some(name)) => Err(Status::BadGrammar { name }),
+        Err(_) => Err(Status::NoMemory),
+    }
+}
+
+/// Reads the source to its end, and the script in its bytes, which are given back.
+fn read_source<S: Source>(alloc: Global, source: &mut S) -> Result<Script, Status>
+    ensures script { IfOk result (IsScriptOf (S.left source.old)) }
+    ensures runnable { IfOk result IsRunnable }
+    ensures accepted { IfOk result (λ script. first_refused script.heads ≡ None) }
+    ensures end { IfOk result (λ _. IsAtEnd (S.left source.new)) }
+    ensures fault { IfErr result (NeverBegan (S.left source.old)) }
+    ensures read { IfErr result (λ status. status ≡ Status.ReadFault → Rose (S.faults source.old) (S.faults source.new)) }
+    ensures later { S.faults source.old ≤ S.faults source.new }
+{
+    let bytes = match read_all(alloc, source, SCRIPT_BYTES) {
         Ok(bytes) => bytes,
-        Err(ReadAll::Failed) => return Status::ReadFault,
-        Err(ReadAll::TooLong) => return Status::NoScript,
-        Err(ReadAll::NoMemory) => return Status::NoMemory,
+        Err(ReadAll::Failed) => return Err(Status::ReadFault),
+        Err(ReadAll::TooLong) => return Err(Status::NoScript),
+        Err(ReadAll::NoMemory) => return Err(Status::NoMemory),
     };
     match read_script(alloc, bytes.get()) {
-        Ok(script) => run_script(alloc, script, sink, history),
-        Err(ScriptFault::Later) => Status::NoScript,
-        Err(ScriptFault::NoMemory) => Status::NoMemory,
+        Ok(script) => accept(alloc, script),
+        Err(ScriptFault::Later) => Err(Status::NoScript),
+        Err(ScriptFault::NoMemory) => Err(Status::NoMemory),
     }
 }
 
-/// The line that tells how the call ended, where it tells more than the output does.
-fn diagnostic(status: Status) -> &'static str
-    ensures { result.now ≡ diagnostic status }
+/// Reads the source to its end, and the script in its bytes, and runs it.
+fn serve<S: Source, W: Sink>(alloc: Global, source: &mut S, sink: W) -> Run<W>
+    ensures outcome { RunOutcome result.status result.history.items
+        (record { left = S.left source.old; before = W.written sink; now = W.written result.sink }) }
+    ensures not_usage { result.status ≡ Status.Usage → ⊥ }
+    ensures end { Answered result.status → IsAtEnd (S.left source.new) }
+    ensures read { result.status ≡ Status.ReadFault → Rose (S.faults source.old) (S.faults source.new) }
+    ensures write { result.status ≡ Status.WriteFault → Rose (W.faults sink) (W.faults result.sink) }
+    ensures complete { (Rose (S.faults source.old) (S.faults source.new) → ⊥) → (Rose (W.faults sink) (W.faults result.sink) → ⊥)
+        → CanEndSo (S.left source.old) result.status }
+    ensures source_later { S.faults source.old ≤ S.faults source.new }
+    ensures sink_later { W.faults sink ≤ W.faults result.sink }
 {
-    match status {
-        Status::Done | Status::Refused => "",
-        Status::Usage => "odinson: usage: see help\n",
-        Status::NoScript => "odinson: script line 0: Later\n",
-        Status::ReadFault => "odinson: read fault\n",
-        Status::WriteFault => "odinson: write fault\n",
-        Status::NoMemory => "odinson: no memory\n",
+    match read_source(alloc, source) {
+        Ok(script) => run_script(alloc, script, sink),
+        Err(status) => Run {
+            status,
+            history: Vec::new(alloc),
+            sink,
+        },
     }
 }
 
-/// The exit status.
-fn exit_status(status: Status) -> u8
-    ensures { result ≡ exit_status status }
-{
-    match status {
-        Status::Done => 0,
-        Status::Refused => 1,
-        Status::Usage => 2,
-        Status::NoScript => 3,
-        Status::ReadFault => 7,
-        Status::WriteFault => 8,
-        Status::NoMemory => 9,
-    }
-}
-
-/// Writes the line of a status from 2 on; nothing is written where every command was answered.
-fn warn<E: Sink>(diag: &mut E, status: Status)
-    ensures quiet { Answered status → diag.new ≡ diag.old }
-    ensures warns { AppendsUpToFault (E.faults diag.old) (E.faults diag.new) (E.written diag.old) (E.written diag.new) (diagnostic status) }
-    ensures later { E.faults diag.old ≤ E.faults diag.new }
-{
-    match status {
-        Status::Done | Status::Refused => {}
-        _ => {
-            let _ = write_whole(diag, diagnostic(status).as_bytes());
-        }
-    }
-}
-
-/// Runs the program: `serve` reads a script from the source, answers its commands, and writes one JSON line for each of them, and for each
-/// printed mention, to the sink. Every other list of words is refused. A status from 2 on has its line on `diag`.
+/// Runs the program: `serve` reads a script from the source, answers its commands, and writes one JSON line for each of them, and
+/// for each printed mention, to the sink. Every other list of words is refused. A status from 2 on has its line on `diag`.
 ///
-/// The history that comes back is one legal history of the script from no document and no session: each reply is what the one-thread
-/// object answers there, each client's entries are its commands once and in order, the bytes that the sink took are its lines,
-/// and each print shows the mentions that the rounds find in the documents that were committed when its session was opened.
+/// The history that comes back is one legal history of the script from no document and no session: each reply is what the
+/// one-thread object answers there, each client's entries are its commands once and in order, the bytes that the sink took are
+/// its lines, and each print shows the mentions that the rounds find in the documents that were committed when its session was
+/// opened.
 pub fn odinson<S: Source, W: Sink, E: Sink>(
     alloc: Global,
     words: &[String],
@@ -173,8 +191,21 @@ pub fn odinson<S: Source, W: Sink, E: Sink>(
     sink: W,
     diag: E,
 ) -> Ended<S, W, E>
-    // How it ended, and what the history and the sink are then.
-    ensures outcome { EndsWith (λ status. Outcome status result.history.items (S.left source) (W.written sink) (W.written result.sink)) result.status }
+    // One status: what the history and the sink are then, its line on `diag`, and that the call may end so.
+    ensures ends { HasStatus result.status (λ status. Ends status result.history.items (record {
+      served = is_serve (map string_bytes words.now);
+      left = S.left source;
+      read_faults = S.faults source;
+      read_faults_now = S.faults result.source;
+      before = W.written sink;
+      now = W.written result.sink;
+      write_faults = W.faults sink;
+      write_faults_now = W.faults result.sink;
+      line_before = E.written diag;
+      line_now = E.written result.diag;
+      line_faults = E.faults diag;
+      line_faults_now = E.faults result.diag;
+    })) }
 
     // Usage exactly where the words are not those of the program; then nothing is read and nothing answered.
     ensures usage { (result.status ≡ 2) ↔ (is_serve (map string_bytes words.now) ≡ false) }
@@ -185,30 +216,30 @@ pub fn odinson<S: Source, W: Sink, E: Sink>(
     ensures write { result.status ≡ 8 → Rose (W.faults sink) (W.faults result.sink) }
     ensures source_later { S.faults source ≤ S.faults result.source }
     ensures sink_later { W.faults sink ≤ W.faults result.sink }
-
-    // The line of the status, and nothing where every command was answered.
-    ensures warns { EndsWith (λ status. AppendsUpToFault (E.faults diag) (E.faults result.diag) (E.written diag) (E.written result.diag) (diagnostic status)) result.status }
-    ensures quiet { (result.status ≡ 0) ⊎ (result.status ≡ 1) → result.diag ≡ diag }
     ensures diag_later { E.faults diag ≤ E.faults result.diag }
 
-    // Where every command was answered, the source was read to its end.
+    // Where every command was answered, nothing is said on `diag`, and the source was read to its end.
+    ensures quiet { (result.status ≡ 0) ⊎ (result.status ≡ 1) → result.diag ≡ diag }
     ensures end { (result.status ≡ 0) ⊎ (result.status ≡ 1) → IsAtEnd (S.left result.source) }
-
-    // With the right words and no fault every command is answered, the bytes are no script, or memory is refused.
-    ensures complete { is_serve (map string_bytes words.now) ≡ true → (Rose (S.faults source) (S.faults result.source) → ⊥) → (Rose (W.faults sink) (W.faults result.sink) → ⊥) → EndsWith (λ status. CanEndSo status (S.left source)) result.status }
 {
     let mut source = source;
-    let mut sink = sink;
     let mut diag = diag;
-    let mut history = Vec::new(alloc);
-    let status = if is_serve(words) {
-        serve(alloc, &mut source, &mut sink, &mut history)
+    let Run {
+        status,
+        history,
+        sink,
+    } = if is_serve(words) {
+        serve(alloc, &mut source, sink)
     } else {
-        Status::Usage
+        Run {
+            status: Status::Usage,
+            history: Vec::new(alloc),
+            sink,
+        }
     };
-    warn(&mut diag, status);
+    warn(&mut diag, &status);
     Ended {
-        status: exit_status(status),
+        status: exit_status(&status),
         history,
         source,
         sink,

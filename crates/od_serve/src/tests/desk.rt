@@ -1,10 +1,10 @@
 use crate::examples::{Ask, DOGS, command, head};
 use od_command::history::{Command, Refusal, Reply};
-use od_workspace::workspace::Store;
-use od_workspace::workspace::change::Answer;
 use od_document::conllu::ConlluKind;
 use od_extraction::phase::Phase;
 use od_text::text::{Bytes, NoMemory, Text};
+use od_workspace::workspace::Store;
+use od_workspace::workspace::change::Answer;
 use std::alloc::{AllocError, Global};
 use std::process::Abort;
 use std::test::Fail;

@@ -1,5 +1,5 @@
 use Rattle.std.proofs.Common.{◌≡◌, ◌<◌, ◌^◌, drop}
-use Rattle.od_order.specs.Thin.{digits_from}
+use Rattle.od_order.specs.Names.{digits_from}
 use Rattle.od_script.proofs.script.digits.Given as goal
 
 abbrev pub invariant-loop-byte : goal.invariant-loop-byte

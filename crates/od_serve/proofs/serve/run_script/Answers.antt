@@ -1,47 +1,23 @@
-use Rattle.std.proofs.Common.{List, sym, subst, ap, ◌∙◌}
-use Rattle.od_pattern.specs.declared.grammar.Head.{Head}
-use Rattle.od_text.specs.Lists.{Each}
+use Rattle.std.proofs.Common.{◌≡◌, ◌∙◌, sym, ap, subst}
+use Rattle.od_session.proofs.Accepted.{all-accepted}
 use Rattle.od_session.specs.Parts.{nothing}
-use Rattle.od_model.specs.History.Legal.{Legal}
-use Rattle.od_order.specs.Runnable.{IsQuery}
 use Rattle.od_model.specs.Run.Clients.{has_refusal}
-use Rattle.od_model.specs.Run.Outcome.{IsCutShort}
-use Rattle.od_serve.specs.Running.Told.{IsTold}
+use Rattle.od_model.specs.Run.Outcome.{Outcome}
+use Rattle.od_desk.specs.Desks.{taken, Origin, DeskState}
+use Rattle.od_serve.specs.Running.Ends.{run_status}
+use Rattle.od_serve.proofs.Outcomes.{ended}
 use Rattle.od_serve.proofs.serve.run_script.Goals as goal
-use Rattle.od_serve.proofs.Outcomes.{ran, ran-whole, reached-start}
 
-pub run_clients-requires : goal.run_clients-requires
-run_clients-requires g c κs within =
-    let accepted = subst (λ (hs : List Head). Each IsQuery hs) (sym c.get.ensures) c.requires.runnable.queries in (
-      within,
-      (
-        accepted,
-        (
-          c.requires.empty,
-          (
-            reached-start c.get.result.now c.args.history.now.items _ (g.W.Sink.written c.args.sink.now) c.requires.empty c.new-store.ensures,
-            (c.requires.runnable.few, c.requires.runnable.short),
-          ),
-        ),
-      ),
-    )
-
-pub returns-then-has_refusal-clause-outcome : goal.returns-then-has_refusal-clause-outcome
-returns-then-has_refusal-clause-outcome g c =
-    let told = subst (λ (hs : List Head). IsTold hs c.run_clients.new.history.items (g.W.Sink.written c.args.sink.now) (g.W.Sink.written c.run_clients.new.sink)) c.get.ensures c.in-Ok-true.ensures.told in
-    (ran-whole c.args.script c.run_clients.new.history.items (g.W.Sink.written c.args.sink.now) (g.W.Sink.written c.run_clients.new.sink) c.requires.runnable.queries told c.run_clients.ensures.callers c.run_clients.ensures.begins (c.in-Ok-true.ensures.follows c.in-Ok-true.field-0-test), ap has_refusal (sym c.deref.ensures.value) ∙ sym c.if-has_refusal.ensures)
-
-pub returns-in-Ok-true-clause-outcome : goal.returns-in-Ok-true-clause-outcome
-returns-in-Ok-true-clause-outcome g c =
-    let told = subst (λ (hs : List Head). IsTold hs c.run_clients.new.history.items (g.W.Sink.written c.args.sink.now) (g.W.Sink.written c.run_clients.new.sink)) c.get.ensures c.in-Ok-true.ensures.told in
-    (ran-whole c.args.script c.run_clients.new.history.items (g.W.Sink.written c.args.sink.now) (g.W.Sink.written c.run_clients.new.sink) c.requires.runnable.queries told c.run_clients.ensures.callers c.run_clients.ensures.begins (c.in-Ok-true.ensures.follows c.in-Ok-true.field-0-test), ap has_refusal (sym c.deref.ensures.value) ∙ sym c.if-has_refusal.ensures)
-
-pub returns-in-Ok-false-clause-outcome : goal.returns-in-Ok-false-clause-outcome
-returns-in-Ok-false-clause-outcome g c =
-    let told = subst (λ (hs : List Head). IsTold hs c.run_clients.new.history.items (g.W.Sink.written c.args.sink.now) (g.W.Sink.written c.run_clients.new.sink)) c.get.ensures c.in-Ok-false.ensures.told in
-    (ran c.args.script c.run_clients.new.history.items c.requires.runnable.queries told.legal c.run_clients.ensures.callers c.run_clients.ensures.begins, told.written)
+pub new-desk-requires : goal.new-desk-requires
+new-desk-requires g c = record { accepted = all-accepted c.args.script.heads c.requires.accepted }
 
 pub returns-clause-outcome : goal.returns-clause-outcome
-returns-clause-outcome g c =
-    let ends = subst (λ (hs : List Head). Legal nothing hs c.run_clients.new.history.items × IsCutShort hs c.run_clients.new.history.items (g.W.Sink.written c.args.sink.now) (g.W.Sink.written c.run_clients.new.sink)) c.get.ensures c.in-Err.ensures.cut in
-    (ran c.args.script c.run_clients.new.history.items c.requires.runnable.queries ends.0 c.run_clients.ensures.callers c.run_clients.ensures.begins, ends.1)
+returns-clause-outcome g c left is =
+    let d : DeskState = c.run_clients-followed.new.desk in
+    let began : Origin = record { heads = c.args.script.heads; start = nothing; sink = taken (g.W.Sink.written c.args.sink) (g.W.Sink.faults c.args.sink) } in
+    let origin : d.origin ≡ began = c.run_clients-followed.ensures.origin ∙ ap (λ (x : DeskState). x.origin) c.new-desk.ensures in
+    let followed = c.run_clients-followed.ensures in
+    let status = run_status c.run_clients-followed.result (has_refusal d.history) in
+    let end = ended c.args.script d left is (ap (λ (o : Origin). o.heads) origin) c.close-history.ensures.desk followed.callers followed.begins c.run_clients-followed.result followed.follows followed.cut in
+    rw (c.run_status.ensures, c.deref.ensures.value, c.close-history.ensures.history, ap (λ t. t.bytes) c.close-history.ensures.sink)
+    (subst (λ (o : Origin). Outcome o.start status d.history (record { left = left; before = o.sink.bytes; now = d.sink.bytes })) origin end)

@@ -1,0 +1,12 @@
+use Rattle.std.proofs.Common.{Err, ap, sym, subst}
+use Rattle.od_model.specs.Run.Clients.{IsRunnable}
+use Rattle.od_model.proofs.Runnable.{script-runnable}
+use Rattle.od_serve.proofs.Outcomes.{long-is-no-script, ok-weaker}
+use Rattle.od_serve.proofs.serve.read_source.Goals as goal
+
+pub returns-in-Err-TooLong-clause-fault : goal.returns-in-Err-TooLong-clause-fault
+returns-in-Err-TooLong-clause-fault g c = long-is-no-script (g.S.Source.left c.args.source.now) (c.in-Err-TooLong.ensures.too_long (ap (λ x. Err x) c.in-Err-TooLong.field-0-is))
+
+pub returns-in-Ok-read_script-clause-runnable : goal.returns-in-Ok-read_script-clause-runnable
+returns-in-Ok-read_script-clause-runnable g c = ok-weaker c.accept.result _ IsRunnable
+    (λ script same. subst IsRunnable (sym same.0) (script-runnable c.get.result.now c.in-Ok-read_script.script c.in-Ok-read_script.ensures.ok)) c.accept.ensures.accepted
