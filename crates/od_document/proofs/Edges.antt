@@ -9,6 +9,7 @@ use Rattle.std.proofs.lemmas.Bool.Decides.{Decides-and, Decides-eqb}
 use Rattle.std.proofs.lemmas.Slice.Eq.{bytes_eq-Decides}
 use Rattle.std.proofs.lemmas.List.Sums.{AllPass-from_list_all}
 use Rattle.std.proofs.lemmas.List.Kept.{AllPairs-cons}
+use Rattle.std.proofs.lemmas.List.{append-nil}
 use Rattle.std.proofs.lemmas.Bool.{ltb-false, lt-ltb, eqb-false, ne_eqb}
 use Rattle.od_document.specs.declared.token.Edge.{Edge}
 use Rattle.od_document.specs.Words.{WordLine, edges_from, edge_of, head_number}
@@ -19,11 +20,7 @@ use Rattle.od_document.specs.Building.{ends_within, Decides-ends_within}
 
 -- the edges of one more word line
 pub edges_from-snoc : (p : ℕ) (ws : List WordLine) (w : WordLine) → edges_from p (ws ++ w ∷ []) ≡ edges_from p ws ++ edge_of (p + length ws) w
-edges_from-snoc p [] w = let z : p + 0 ≡ p = omega arith in rw z (append_none (edge_of p w))
-  where
-    append_none : (es : List Edge) → es ++ [] ≡ es
-    append_none [] = refl
-    append_none (e ∷ es) = ap (λ xs. e ∷ xs) (append_none es)
+edges_from-snoc p [] w = let z : p + 0 ≡ p = omega arith in rw z (append-nil (edge_of p w))
 edges_from-snoc p (v ∷ ws) w =
     let z : (p + 1) + length ws ≡ p + length (v ∷ ws) = omega arith in
     ap (λ es. edge_of p v ++ es) (edges_from-snoc (p + 1) ws w ∙ ap (λ n. edges_from (p + 1) ws ++ edge_of n w) z) ∙ sym (append_assoc (edge_of p v) (edges_from (p + 1) ws) (edge_of (p + length (v ∷ ws)) w))
@@ -32,7 +29,7 @@ found_none : {A : Type 0} (t : Bool) (x : A) (o : Option A) → (if t then Some 
 found_none true x o e = absurd (cc)
 found_none false x o e = (refl, e)
 
-map_none : {A B : Type 0} (f : A → B) (o : Option A) → option_map f o ≡ None → o ≡ None
+pub map_none : {A B : Type 0} (f : A → B) (o : Option A) → option_map f o ≡ None → o ≡ None
 map_none f None e = refl
 map_none f (Some x) e = absurd (cc)
 

@@ -1,12 +1,12 @@
 -- Bytes without a fault are a document, and the definitions build it.
 use Rattle.std.proofs.Common.{◌≡◌, ◌≢◌, ℕ, ◌+◌, ◌<◌, ◌≤◌, List, [], ◌∷◌, length, map, Bool, true, false, refl, sym, ap, ◌∙◌, arith, Option, None, Some, inl, inr}
 use Rattle.std.specs.Prelude.{◌==◌, ◌⊎◌, not, if◌then◌else◌, nat_lt, nat_le, cond}
-use Rattle.std.specs.Option.{option_or, option_map}
+use Rattle.std.specs.Option.{option_or}
 use Rattle.std.specs.List.{cons_option}
 use Rattle.std.specs.Str.Lossy.{utf8_valid_len}
 use Rattle.std.proofs.lemmas.Bool.{ltb-false, ltb-true, leb-false}
 use Rattle.std.proofs.lemmas.List.{length-map}
-use Rattle.od_document.specs.declared.limits.TheConstants.{DOCUMENT_BYTES, SENTENCE_TOKENS, SENTENCE_EDGES}
+use Rattle.od_document.specs.declared.limits.TheConstants.{DOCUMENT_BYTES, SENTENCE_TOKENS}
 use Rattle.od_document.specs.declared.token.Token.{Token}
 use Rattle.od_document.specs.declared.token.Edge.{Edge}
 use Rattle.od_document.specs.declared.sentence.Sentence.{Sentence}
@@ -19,19 +19,15 @@ use Rattle.od_document.specs.Faults.{word_fault, content_fault, lines_fault, hea
 use Rattle.od_document.specs.Edges.{EndsWithin, AreDistinct}
 use Rattle.od_document.specs.Size.{size_in_parts}
 use Rattle.od_document.specs.Reading.{shown, tokens_and_edges, Reads}
-use Rattle.od_document.specs.Building.{if_passes, is_sentence, is_document, Decides-is_sentence, Decides-is_document, sentence_of, sentences_of, document_with, document_of}
+use Rattle.od_document.specs.Building.{if_passes, KeepsSentence, is_sentence, is_document, Decides-is_sentence, Decides-is_document, sentence_of, sentences_of, document_with, document_of}
 use Rattle.od_document.specs.Laws.{BuildsDocuments, IsDocumentOrFault}
-use Rattle.od_document.proofs.Edges.{EndsWithin-edges, AreDistinct-edges}
+use Rattle.od_document.proofs.Edges.{EndsWithin-edges, AreDistinct-edges, map_none}
 use Rattle.od_document.proofs.Uniqueness.{reads_once}
 use Rattle.od_document.proofs.Size.{size_short, cons_length, mark_short, edges_short}
 
 both_none : {T : Type 0} (x y : Option T) → option_or x y ≡ None → (x ≡ None) × (y ≡ None)
 both_none None y e = (refl, e)
 both_none (Some x) y e = absurd (cc)
-
-map_none : {A B : Type 0} (f : A → B) (o : Option A) → option_map f o ≡ None → o ≡ None
-map_none f None e = refl
-map_none f (Some x) e = absurd (cc)
 
 past : {A : Type 0} (t : Bool) (x : A) (o : Option A) → (if t then Some x else o) ≡ None → (t ≡ false) × (o ≡ None)
 past true x o e = absurd (cc)
@@ -55,12 +51,12 @@ words_few k (l ∷ ls) h e =
 
 -- the tokens and edges of word lines keep what each sentence keeps
 pub sentence_keeps : (ws : List WordLine) (tokens : List Token) (edges : List Edge) → tokens ≡ map token_of ws → edges ≡ edges_from 0 ws → length ws ≤ SENTENCE_TOKENS
-    → heads_fault (length ws) ws ≡ None → length tokens ≢ 0 → (0 < length tokens) × (length tokens ≤ SENTENCE_TOKENS) × (length edges ≤ SENTENCE_EDGES) × EndsWithin (length tokens) edges × AreDistinct edges
+    → heads_fault (length ws) ws ≡ None → length tokens ≢ 0 → KeepsSentence (tokens, edges)
 sentence_keeps ws tokens edges told drawn few none some =
     let count : length tokens ≡ length ws = ap length told ∙ length-map ws token_of in
     let ends : EndsWithin (length ws) edges = rw drawn (EndsWithin-edges ws none) in
     let distinct : AreDistinct edges = rw drawn (AreDistinct-edges ws) in
-    (omega arith, omega arith, omega (arith, ap length drawn, edges_short 0 ws), rw count ends, distinct)
+    ((((omega arith, omega arith), omega (arith, ap length drawn, edges_short 0 ws)), rw count ends), distinct)
 
 -- a test that passes gives the value
 passed : {A : Type 0} (t : Bool) (value : t ≡ true → A) → t ≡ true → (h : t ≡ true) × (if_passes t value ≡ Some (value h))
@@ -71,7 +67,7 @@ sentence_built : (ws : List WordLine) → 0 < length ws → length ws ≤ SENTEN
     → (s : Sentence) × (sentence_of ws ≡ Some s) × (shown s ≡ tokens_and_edges ws)
 sentence_built ws some few none =
     let k = sentence_keeps ws (map token_of ws) (edges_from 0 ws) refl refl few none (λ z. omega (arith, z, length-map ws token_of)) in
-    let built = passed (is_sentence (tokens_and_edges ws)) _ ((Decides-is_sentence (tokens_and_edges ws)).1 ((((k.0, k.1), k.2), k.3), k.4)) in
+    let built = passed (is_sentence (tokens_and_edges ws)) _ ((Decides-is_sentence (tokens_and_edges ws)).1 k) in
     (_, built.1, refl)
 
 -- one more sentence

@@ -5,6 +5,7 @@ use Rattle.std.specs.List.{slice_split, onto_first, cons_option, starts_with}
 use Rattle.std.specs.Str.Lines.{lines, lines_of_parts, strip_carriage_return}
 use Rattle.std.proofs.lemmas.Bool.{ltb-true}
 use Rattle.std.proofs.lemmas.Grind.{common_steps}
+use Rattle.std.proofs.lemmas.List.{length-map}
 use Rattle.od_document.specs.declared.token.Token.{Token}
 use Rattle.od_document.specs.declared.token.Edge.{Edge}
 use Rattle.od_document.specs.declared.sentence.Sentence.{Sentence}
@@ -132,13 +133,9 @@ shown_size : (ss : List Sentence) → size_in_parts ss ≡ size_shown (map shown
 shown_size [] = refl
 shown_size (s ∷ ss) = ap (λ n. sentence_parts s + n) (shown_size ss)
 
-length_map : {X Y : Type 0} (f : X → Y) (xs : List X) → length (map f xs) ≡ length xs
-length_map f [] = refl
-length_map f (x ∷ xs) = omega (arith, length_map f xs)
-
 filled_size : (t : Bool) (ws : List WordLine) (rest : List (List WordLine)) → nat_lt 0 (length ws) ≡ t
     → size_shown (map tokens_and_edges (cond t (ws ∷ rest) rest)) ≤ 3 * length ws + size_shown (map tokens_and_edges rest)
-filled_size true ws rest e = omega (arith, ltb-true 0 (length ws) e, edges_short 0 ws, length_map token_of ws)
+filled_size true ws rest e = omega (arith, ltb-true 0 (length ws) e, edges_short 0 ws, length-map ws token_of)
 filled_size false ws rest e = omega arith
 
 sentences_short : (bs : List (List Line)) → size_shown (map tokens_and_edges (sentences_in bs)) ≤ total_of (λ (l : Line). length l.text) bs

@@ -80,19 +80,22 @@ Decides-is_document size ss =
     let some = Decides-and _ _ (Decides-ltb 0 (length ss)) (Decides-nat_le size DOCUMENT_BYTES) in
     Decides-and _ _ some (Decides-nat_le (size_in_parts ss) size)
 
+-- the sentence of these tokens and edges
+abbrev pub sentence_with : (p : List Token × List Edge) → KeepsSentence p → Sentence
+sentence_with p keeps = record {
+  tokens = p.0;
+  edges = p.1;
+  some = keeps.0.0.0.0;
+  few = keeps.0.0.0.1;
+  few_edges = keeps.0.0.1;
+  ends = keeps.0.1;
+  distinct = keeps.1;
+}
+
 -- the sentence that word lines give
 abbrev pub sentence_of : List WordLine → Option Sentence
 sentence_of ws = if_passes (is_sentence (tokens_and_edges ws)) (λ h.
-    let keeps = (Decides-is_sentence (tokens_and_edges ws)).0 h in
-    record {
-      tokens = (tokens_and_edges ws).0;
-      edges = (tokens_and_edges ws).1;
-      some = keeps.0.0.0.0;
-      few = keeps.0.0.0.1;
-      few_edges = keeps.0.0.1;
-      ends = keeps.0.1;
-      distinct = keeps.1;
-    })
+    sentence_with (tokens_and_edges ws) ((Decides-is_sentence (tokens_and_edges ws)).0 h))
 
 -- the sentences that lists of word lines give, where each gives one
 abbrev pub sentences_of : List (List WordLine) → Option (List Sentence)
@@ -101,17 +104,20 @@ sentences_of (ws ∷ wss) =
     option_and_then (λ s. option_map (λ ss. s ∷ ss) (sentences_of wss)) (sentence_of ws)
 
 -- the document of this name and number of bytes with these sentences
+abbrev pub doc_with : List ℕ → (size : ℕ) (ss : List Sentence) → KeepsDocument size ss → Doc
+doc_with name size ss keeps = record {
+  name = name;
+  size = size;
+  sentences = ss;
+  some = keeps.0.0;
+  small = keeps.0.1;
+  parts = keeps.1;
+}
+
+-- the same, where the sentences keep what those of each document do
 abbrev pub document_with : List ℕ → ℕ → List Sentence → Option Doc
-document_with name size ss = if_passes (is_document size ss) (λ h.
-    let keeps = (Decides-is_document size ss).0 h in
-    record {
-      name = name;
-      size = size;
-      sentences = ss;
-      some = keeps.0.0;
-      small = keeps.0.1;
-      parts = keeps.1;
-    })
+document_with name size ss =
+    if_passes (is_document size ss) (λ h. doc_with name size ss ((Decides-is_document size ss).0 h))
 
 -- the document, where there is no fault
 abbrev pub faultless : Option ConlluFault → Option Doc → Option Doc

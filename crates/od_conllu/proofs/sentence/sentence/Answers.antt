@@ -14,4 +14,4 @@ invariant_of-result c =
     let told = c.from_vec.ensures ∙ c.in_ok-tokens.ensures in
     let k = sentence_keeps ws c.from_vec.result c.from_vec-2.result told (c.from_vec-2.ensures ∙ c.in_ok-edges.ensures) (omega (arith, count, c.requires.few))
     (ap (λ n. heads_fault n ws) count ∙ c.requires.heads) (λ z. omega (arith, z, count, ap length told, length-map ws token_of, c.requires.some)) in
-    record { some = k.0; few = k.1; few_edges = k.2; ends = k.3; distinct = k.4 }
+    record { some = k.0.0.0.0; few = k.0.0.0.1; few_edges = k.0.0.1; ends = k.0.1; distinct = k.1 }
