@@ -45,6 +45,24 @@ fn limits_are_those_of_the_documentation(rt: HostRuntime) {
 }
 
 #[test]
+fn memory_suffices_for_a_document_at_the_limits(rt: HostRuntime) -> Result<(), Fail> {
+    let alloc = rt.alloc();
+    let mut text = String::new(alloc);
+    for id in 1..2001u32 {
+        let line = format!(in alloc; "{id}\tw\t_\t_\t_\t_\t1\tdep\t_\t_\n")?;
+        text.push_str(line.as_str())?;
+    }
+    let mut bytes = text.into_bytes();
+    bytes.resize(1048576, b'#')?;
+    let doc = read_doc(alloc, "d", &bytes)?;
+    let sentences = doc.sentences.get();
+    assert_eq!(rt; sentences.len(), 1);
+    assert_eq!(rt; sentences[0].tokens.get().len(), 2000);
+    assert_eq!(rt; sentences[0].edges.get().len(), 2000);
+    Ok(())
+}
+
+#[test]
 fn names_the_first_fault(rt: HostRuntime) {
     let rows = [
         ("# x", 1, ConlluKind::Empty),
