@@ -1,6 +1,3 @@
-pub mod Lines
-pub mod Drafts
+-- The lemmas of this crate.
 pub mod Reached
-pub mod Returns
-pub mod Splits
-pub mod Told
+pub mod Sentences

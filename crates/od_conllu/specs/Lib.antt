@@ -1,4 +1,4 @@
-pub mod Drafts
-pub mod Reached
-pub mod Rows
+-- The definitions of this crate.
+pub mod Lines
 pub mod Seen
+pub mod Steps

@@ -1,15 +1,22 @@
--- What borrowed parts of a text show.
-use Rattle.std.specs.Prelude.{◌≡◌, ℕ, ◌==◌, ◌<◌, List, [], ◌∷◌, length, Option, None, Some}
+-- What borrowed texts show.
+use Rattle.std.specs.Prelude.{ℕ, List}
 use Rattle.std.specs.Borrow.{Bor}
-use Rattle.std.specs.List.{slice_split}
+use Rattle.od_document.specs.Columns as columns
+use Rattle.od_conllu.specs.declared.line_columns.LineColumns.{LineColumns}
 
-abbrev pub now : Bor (List ℕ) → List ℕ
-now text = text.now
+-- the bytes of a borrowed text
+abbrev pub text_seen : Bor (List ℕ) → List ℕ
+text_seen text = text.now
 
-abbrev pub both : Bor (List ℕ) × Bor (List ℕ) → List ℕ × List ℕ
-both p = (p.0.now, p.1.now)
-
--- the parts of the text are the first one and those of the rest
-abbrev pub Splits : ℕ → List ℕ → Option (Bor (List ℕ) × Bor (List ℕ)) → Type 0
-Splits c text None = slice_split (λ b. b == c) text ≡ text ∷ []
-Splits c text (Some p) = (slice_split (λ b. b == c) text ≡ p.0.now ∷ slice_split (λ b. b == c) p.1.now) × (length p.1.now < length text)
+-- the columns of a line, as the definitions see them
+abbrev pub columns_seen : LineColumns → columns.LineColumns
+columns_seen line = record {
+  id = line.id.now;
+  form = line.form.now;
+  lemma = line.lemma.now;
+  upos = line.upos.now;
+  xpos = line.xpos.now;
+  head = line.head.now;
+  deprel = line.deprel.now;
+  misc = line.misc.now;
+}

@@ -1,34 +1,42 @@
 // What the text of a column says.
 ghost use Rattle.std.specs.Prelude.{◌≡◌, ◌<◌, IfOk, IfSome};
-ghost use Rattle.std.specs.Option.{option_map, is_some};
-ghost use Rattle.od_document.specs.Columns.{number_of, digits_after, word_id, is_range_or_empty_node, is_range, is_empty_node, head_of, column_value, edge_label};
-ghost use Rattle.od_text.specs.Cuts.{split_once};
+ghost use Rattle.std.specs.Option.{option_map};
+ghost use Rattle.od_document.specs.Columns.{node_number, digits_after, word_id, governor_of};
+ghost use Rattle.od_document.specs.Columns.{is_range_or_empty_node, is_range, is_empty_node};
+ghost use Rattle.od_document.specs.Columns.{column_value, edge_label};
+ghost use Rattle.od_text.specs.Cuts.{split_once, both, CutsAt};
 ghost use Rattle.od_text.specs.Folding.{fold_text};
-ghost use Rattle.od_conllu.specs.Seen.{both};
 
 use caseless::default_case_fold_str;
+use od_document::limits::NODE_NUMBERS;
 use od_text::text::{NoMemory, Text};
 use std::alloc::Global;
 
 /// The text before the first `c` and the text after it, where there is one.
+#[tactic(auto, using(od_text::proofs::Cuts::cuts_once))]
 pub fn cut<'a>(text: &'a str, c: char) -> Option<(&'a str, &'a str)>
     requires { c < 128 }
-    ensures { split_once c text.now ≡ option_map both result }
+    ensures once { split_once c text.now ≡ option_map both result }
+    ensures parts { CutsAt c text.now result }
 {
     text.split_once(c)
 }
 
-/// The number whose digits are those of `n` and then these, six at most.
+/// The number whose digits are those of `n` and then these, where it is not too great.
 fn digits(n: u32, text: &[u8]) -> Option<u32>
-    requires { n < 1000000 }
+    requires { n < NODE_NUMBERS }
     ensures is { result ≡ digits_after n text.now }
-    ensures small { IfSome result (λ m. m < 1000000) }
+    ensures small { IfSome result (λ m. m < NODE_NUMBERS) }
 {
     match text {
         [] => Some(n),
         [c, rest @ ..] => {
-            if b'0' <= *c && *c <= b'9' && n < 100000 {
-                digits(n * 10 + u32::from(*c - b'0'), rest)
+            if !c.is_ascii_digit() {
+                return None;
+            }
+            let more = n * 10 + u32::from(*c - b'0');
+            if more < NODE_NUMBERS {
+                digits(more, rest)
             } else {
                 None
             }
@@ -36,10 +44,10 @@ fn digits(n: u32, text: &[u8]) -> Option<u32>
     }
 }
 
-/// A number: one to six digits without a leading zero, or `0`.
-pub fn number(text: &str) -> Option<u32>
-    ensures is { result ≡ number_of text.now }
-    ensures small { IfSome result (λ m. m < 1000000) }
+/// A number of a node: one to six digits without a leading zero, or `0`.
+fn node_number(text: &str) -> Option<u32>
+    ensures is { result ≡ node_number text.now }
+    ensures small { IfSome result (λ m. m < NODE_NUMBERS) }
 {
     let text = text.as_bytes();
     if text.is_empty() {
@@ -54,9 +62,9 @@ pub fn number(text: &str) -> Option<u32>
 /// The ID of a word, a number from 1.
 pub fn word_id(text: &str) -> Option<u32>
     ensures is { result ≡ word_id text.now }
-    ensures small { IfSome result (λ m. m < 1000000) }
+    ensures small { IfSome result (λ m. m < NODE_NUMBERS) }
 {
-    let n = number(text)?;
+    let n = node_number(text)?;
     if n == 0 { None } else { Some(n) }
 }
 
@@ -79,7 +87,7 @@ fn is_empty_node(text: &str) -> bool
 {
     match cut(text, '.') {
         None => false,
-        Some((after, place)) => number(after).is_some() && word_id(place).is_some(),
+        Some((after, place)) => node_number(after).is_some() && word_id(place).is_some(),
     }
 }
 
@@ -91,14 +99,14 @@ pub fn is_range_or_empty_node(text: &str) -> bool
 }
 
 /// The number that HEAD names, 0 for none; none where it is neither `_` nor a number.
-pub fn head(text: &str) -> Option<u32>
-    ensures is { result ≡ head_of text.now }
-    ensures small { IfSome result (λ m. m < 1000000) }
+pub fn governor(text: &str) -> Option<u32>
+    ensures is { result ≡ governor_of text.now }
+    ensures small { IfSome result (λ m. m < NODE_NUMBERS) }
 {
     if text == "_" {
         return Some(0);
     }
-    number(text)
+    node_number(text)
 }
 
 /// The value of a column, none where it is `_` or empty.
@@ -125,8 +133,5 @@ pub fn label(alloc: Global, text: &str) -> Result<Text, NoMemory>
 pub fn fold(alloc: Global, text: &str) -> Result<Text, NoMemory>
     ensures { IfOk result (λ t. t ≡ fold_text text.now) }
 {
-    match default_case_fold_str(alloc, text) {
-        Ok(folded) => Ok(Text::from_string(folded)),
-        Err(_) => Err(NoMemory),
-    }
+    Ok(Text::from_string(default_case_fold_str(alloc, text)?))
 }

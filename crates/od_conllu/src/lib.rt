@@ -5,10 +5,12 @@ mod column;
 mod content;
 mod draft;
 mod fault;
+mod line_columns;
 mod reader;
-mod row;
+mod sentence;
 #[cfg(test)]
 mod tests;
+mod word_line;
 
 pub use fault::ReadDocFault;
 pub use reader::read_doc;

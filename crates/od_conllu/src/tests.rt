@@ -1,5 +1,6 @@
 use crate::{ReadDocFault, read_doc};
 use od_document::conllu::{ConlluFault, ConlluKind};
+use od_document::limits::{DOCUMENT_BYTES, NODE_NUMBERS, SENTENCE_EDGES, SENTENCE_TOKENS};
 use std::alloc::Global;
 use std::test::Fail;
 
@@ -9,17 +10,6 @@ fn fault_of(alloc: Global, bytes: &[u8]) -> Option<ConlluFault> {
         Err(ReadDocFault::Bad(fault)) => Some(fault),
         Err(ReadDocFault::NoMemory) => None,
     }
-}
-
-/// The word lines of a sentence of this many words.
-fn words(alloc: Global, count: u32) -> Result<String, Fail> {
-    let mut text = String::new(alloc);
-    for n in 0..count {
-        let id = u64::from(n) + 1;
-        let line = format!(in alloc; "{id}\tw\t_\t_\t_\t_\t_\t_\t_\t_\n")?;
-        text.push_str(line.as_str())?;
-    }
-    Ok(text)
 }
 
 #[test]
@@ -38,43 +28,37 @@ fn reads_a_sentence_with_comments_a_range_and_crlf(rt: HostRuntime) -> Result<()
     assert_eq!(rt; sentences.len(), 1);
     let tokens = sentences[0].tokens.get();
     assert_eq!(rt; tokens.len(), 6);
-    assert_eq!(rt; sentences[0].edges.get().len(), 5);
     assert_eq!(rt; tokens[0].norm.get(), "i");
+    let edges = sentences[0].edges.get();
+    assert_eq!(rt; edges.len(), 5);
+    assert_eq!(rt; (edges[2].governor, edges[2].dependent), (4, 3));
+    assert_eq!(rt; edges[2].label.get(), "det");
     Ok(())
 }
 
 #[test]
-fn a_sentence_has_at_most_two_thousand_words(rt: HostRuntime) -> Result<(), Fail> {
-    let alloc = rt.alloc();
-    let most = words(alloc, 2000)?;
-    assert!(rt; read_doc(alloc, "d", most.as_bytes()).is_ok());
-    let fault = fault_of(alloc, words(alloc, 2001)?.as_bytes());
-    assert_eq!(rt;
-        fault,
-        Some(ConlluFault {
-            line: 2001,
-            kind: ConlluKind::TooManyTokens
-        })
-    );
-    Ok(())
+fn limits_are_those_of_the_documentation(rt: HostRuntime) {
+    assert_eq!(rt; DOCUMENT_BYTES, 1048576);
+    assert_eq!(rt; SENTENCE_TOKENS, 2000);
+    assert_eq!(rt; SENTENCE_EDGES, 1048576);
+    assert_eq!(rt; NODE_NUMBERS, 1000000);
 }
 
 #[test]
-fn a_document_has_at_most_one_mebibyte(rt: HostRuntime) -> Result<(), Fail> {
+fn memory_suffices_for_a_document_at_the_limits(rt: HostRuntime) -> Result<(), Fail> {
     let alloc = rt.alloc();
-    let line = "\n1\tw\t_\t_\t_\t_\t0\troot\t_\t_";
-    let mut bytes = vec![in alloc; b'#'; 1048576 - 23]?;
-    bytes.extend_from_slice(line.as_bytes())?;
-    assert_eq!(rt; bytes.len(), 1048576);
-    assert!(rt; read_doc(alloc, "d", &bytes).is_ok());
-    bytes.push(b'\n')?;
-    assert_eq!(rt;
-        fault_of(alloc, &bytes),
-        Some(ConlluFault {
-            line: 1,
-            kind: ConlluKind::TooLong
-        })
-    );
+    let mut text = String::new(alloc);
+    for id in 1..2001u32 {
+        let line = format!(in alloc; "{id}\tw\t_\t_\t_\t_\t1\tdep\t_\t_\n")?;
+        text.push_str(line.as_str())?;
+    }
+    let mut bytes = text.into_bytes();
+    bytes.resize(1048576, b'#')?;
+    let doc = read_doc(alloc, "d", &bytes)?;
+    let sentences = doc.sentences.get();
+    assert_eq!(rt; sentences.len(), 1);
+    assert_eq!(rt; sentences[0].tokens.get().len(), 2000);
+    assert_eq!(rt; sentences[0].edges.get().len(), 2000);
     Ok(())
 }
 

@@ -9,6 +9,7 @@ use Rattle.std.proofs.lemmas.Bool.Decides.{Decides-and, Decides-eqb}
 use Rattle.std.proofs.lemmas.Slice.Eq.{bytes_eq-Decides}
 use Rattle.std.proofs.lemmas.List.Sums.{AllPass-from_list_all}
 use Rattle.std.proofs.lemmas.List.Kept.{AllPairs-cons}
+use Rattle.std.proofs.lemmas.List.{append-nil}
 use Rattle.std.proofs.lemmas.Bool.{ltb-false, lt-ltb, eqb-false, ne_eqb}
 use Rattle.od_document.specs.declared.token.Edge.{Edge}
 use Rattle.od_document.specs.Words.{WordLine, edges_from, edge_of, head_number}
@@ -19,11 +20,7 @@ use Rattle.od_document.specs.Building.{ends_within, Decides-ends_within}
 
 -- the edges of one more word line
 pub edges_from-snoc : (p : ℕ) (ws : List WordLine) (w : WordLine) → edges_from p (ws ++ w ∷ []) ≡ edges_from p ws ++ edge_of (p + length ws) w
-edges_from-snoc p [] w = let z : p + 0 ≡ p = omega arith in rw z (append_none (edge_of p w))
-  where
-    append_none : (es : List Edge) → es ++ [] ≡ es
-    append_none [] = refl
-    append_none (e ∷ es) = ap (λ xs. e ∷ xs) (append_none es)
+edges_from-snoc p [] w = let z : p + 0 ≡ p = omega arith in rw z (append-nil (edge_of p w))
 edges_from-snoc p (v ∷ ws) w =
     let z : (p + 1) + length ws ≡ p + length (v ∷ ws) = omega arith in
     ap (λ es. edge_of p v ++ es) (edges_from-snoc (p + 1) ws w ∙ ap (λ n. edges_from (p + 1) ws ++ edge_of n w) z) ∙ sym (append_assoc (edge_of p v) (edges_from (p + 1) ws) (edge_of (p + length (v ∷ ws)) w))
@@ -32,7 +29,7 @@ found_none : {A : Type 0} (t : Bool) (x : A) (o : Option A) → (if t then Some 
 found_none true x o e = absurd (cc)
 found_none false x o e = (refl, e)
 
-map_none : {A B : Type 0} (f : A → B) (o : Option A) → option_map f o ≡ None → o ≡ None
+pub map_none : {A B : Type 0} (f : A → B) (o : Option A) → option_map f o ≡ None → o ≡ None
 map_none f None e = refl
 map_none f (Some x) e = absurd (cc)
 
@@ -46,7 +43,7 @@ heads_below count w ws e =
 within-cons : (count p : ℕ) (w : WordLine) (es : List Edge) → head_number w ≤ count → p < count → ends_within count es ≡ true → ends_within count (edge_of p w ++ es) ≡ true
 within-cons count p w es low here more = by (head_number w == 0) refl
   where
-    by : (t : Bool) → (head_number w == 0) ≡ t → ends_within count ((if t then [] else record { governor = head_number w - 1; dependent = p; label = edge_label w.row.deprel } ∷ []) ++ es) ≡ true
+    by : (t : Bool) → (head_number w == 0) ≡ t → ends_within count ((if t then [] else record { governor = head_number w - 1; dependent = p; label = edge_label w.columns.deprel } ∷ []) ++ es) ≡ true
     by true e = more
     by false e =
         let governor : nat_lt (head_number w - 1) count ≡ true = lt-ltb (head_number w - 1) count (omega (arith, eqb-false _ _ e)) in
@@ -70,11 +67,11 @@ not_same false b c d eb ed = ed
 apart-cons : (e : Edge) (p : ℕ) (w : WordLine) (es : List Edge) → e.dependent < p → list_all (λ f. not (same_edge e f)) es ≡ true → list_all (λ f. not (same_edge e f)) (edge_of p w ++ es) ≡ true
 apart-cons e p w es less more = by (head_number w == 0)
   where
-    by : (t : Bool) → list_all (λ f. not (same_edge e f)) ((if t then [] else record { governor = head_number w - 1; dependent = p; label = edge_label w.row.deprel } ∷ []) ++ es) ≡ true
+    by : (t : Bool) → list_all (λ f. not (same_edge e f)) ((if t then [] else record { governor = head_number w - 1; dependent = p; label = edge_label w.columns.deprel } ∷ []) ++ es) ≡ true
     by true = more
     by false =
         let apart : (e.dependent == p) ≡ false = ne_eqb e.dependent p (λ z. omega (arith, z)) in
-        not_same (e.governor == head_number w - 1) (e.dependent == p) (bytes_eq e.label (edge_label w.row.deprel)) (list_all (λ f. not (same_edge e f)) es) apart more
+        not_same (e.governor == head_number w - 1) (e.dependent == p) (bytes_eq e.label (edge_label w.columns.deprel)) (list_all (λ f. not (same_edge e f)) es) apart more
 
 edges_from-apart : (e : Edge) (p : ℕ) (ws : List WordLine) → e.dependent < p → list_all (λ f. not (same_edge e f)) (edges_from p ws) ≡ true
 edges_from-apart e p [] less = refl
@@ -85,9 +82,9 @@ all_differ-edges : (p : ℕ) (ws : List WordLine) → all_differ (edges_from p w
 all_differ-edges p [] = refl
 all_differ-edges p (w ∷ ws) = by (head_number w == 0) (all_differ-edges (p + 1) ws)
   where
-    by : (t : Bool) → all_differ (edges_from (p + 1) ws) ≡ true → all_differ ((if t then [] else record { governor = head_number w - 1; dependent = p; label = edge_label w.row.deprel } ∷ []) ++ edges_from (p + 1) ws) ≡ true
+    by : (t : Bool) → all_differ (edges_from (p + 1) ws) ≡ true → all_differ ((if t then [] else record { governor = head_number w - 1; dependent = p; label = edge_label w.columns.deprel } ∷ []) ++ edges_from (p + 1) ws) ≡ true
     by true more = more
-    by false more = rw (edges_from-apart (record { governor = head_number w - 1; dependent = p; label = edge_label w.row.deprel }) (p + 1) ws (omega arith), more) refl
+    by false more = rw (edges_from-apart (record { governor = head_number w - 1; dependent = p; label = edge_label w.columns.deprel }) (p + 1) ws (omega arith), more) refl
 
 pub AreDistinct-edges : (ws : List WordLine) → AreDistinct (edges_from 0 ws)
 AreDistinct-edges ws = all_differ-edges 0 ws

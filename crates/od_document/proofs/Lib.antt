@@ -4,4 +4,4 @@ pub mod Existence
 pub mod Faults
 pub mod Numbers
 pub mod Uniqueness
-pub mod Weight
+pub mod Size

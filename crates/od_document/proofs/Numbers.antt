@@ -2,10 +2,11 @@
 use Rattle.std.proofs.Common.{◌≡◌, ◌≢◌, ℕ, zero, suc, ◌+◌, ◌-◌, ◌*◌, ◌<◌, ◌≤◌, List, [], ◌∷◌, length, Bool, true, false, refl, sym, ap, ◌∙◌, arith, Option, None, Some, get_or, rules}
 use Rattle.std.specs.Prelude.{◌==◌, ◌&&◌, if◌then◌else◌, nat_lt, nat_le, decimal, slice_index}
 use Rattle.std.specs.Str.{all_ascii_digits}
-use Rattle.std.proofs.lemmas.Bool.{ltb-true, ltb-false, leb-true, lt-ltb, eqb-false, eq-eqb, ne_eqb}
+use Rattle.std.proofs.lemmas.Bool.{ltb-true, ltb-false, lt-ltb, eqb-false, eq-eqb, ne_eqb}
 use Rattle.std.proofs.lemmas.Str.Parse.{IsNumeralModel, numerals_by_fold}
 use Rattle.std.proofs.lemmas.Fmt.{decimal-digits_value, digits_decimal, digits_value-decimal, decimal_nonempty, first_decimal, decimal_digit}
-use Rattle.od_document.specs.Columns.{number_of, digits_after, ReadsNumbers}
+use Rattle.od_document.specs.declared.limits.TheConstants.{NODE_NUMBERS}
+use Rattle.od_document.specs.Columns.{node_number, digits_after, ReadsNumbers}
 
 abbrev pub read_on : ℕ → List ℕ → ℕ
 read_on n [] = n
@@ -30,32 +31,32 @@ left : {A : Type 0} (t : Bool) (o : Option A) (x : A) → (if t then None else o
 left true o x e = absurd (cc)
 left false o x e = (refl, e)
 
-digits_read : (n : ℕ) (text : List ℕ) (m : ℕ) → n < 1000000 → digits_after n text ≡ Some m → (all_ascii_digits text ≡ true) × (read_on n text ≡ m) × (m < 1000000)
+digits_read : (n : ℕ) (text : List ℕ) (m : ℕ) → n < NODE_NUMBERS → digits_after n text ≡ Some m → (all_ascii_digits text ≡ true) × (read_on n text ≡ m) × (m < NODE_NUMBERS)
 digits_read n [] m h e = let same : n ≡ m = cc in (refl, same, omega (arith, same))
 digits_read n (c ∷ cs) m h e =
-    let t = taken (nat_le 48 c && nat_le c 57 && nat_lt n 100000) (digits_after (n * 10 + (c - 48)) cs) m e in
-    let p = both (nat_le 48 c && nat_le c 57) (nat_lt n 100000) t.0 in
+    let t = taken (nat_le 48 c && nat_le c 57 && nat_lt (n * 10 + (c - 48)) NODE_NUMBERS) (digits_after (n * 10 + (c - 48)) cs) m e in
+    let p = both (nat_le 48 c && nat_le c 57) (nat_lt (n * 10 + (c - 48)) NODE_NUMBERS) t.0 in
     let q = both (nat_le 48 c) (nat_le c 57) p.0 in
-    let next : n * 10 + (c - 48) < 1000000 = omega (arith, leb-true c 57 q.1, ltb-true n 100000 p.1) in
+    let next : n * 10 + (c - 48) < NODE_NUMBERS = ltb-true (n * 10 + (c - 48)) NODE_NUMBERS p.1 in
     let more = digits_read (n * 10 + (c - 48)) cs m next t.1 in
     let turned : 10 * n + (c - 48) ≡ n * 10 + (c - 48) = omega arith in
     (rw (q.0, q.1) more.0, rw turned more.1, more.2)
 
-read_digits : (n : ℕ) (text : List ℕ) → all_ascii_digits text ≡ true → read_on n text < 1000000 → digits_after n text ≡ Some (read_on n text)
+read_digits : (n : ℕ) (text : List ℕ) → all_ascii_digits text ≡ true → read_on n text < NODE_NUMBERS → digits_after n text ≡ Some (read_on n text)
 read_digits n [] e h = refl
 read_digits n (c ∷ cs) e h =
     let d = both (nat_le 48 c && nat_le c 57) (all_ascii_digits cs) e in
     let p = both (nat_le 48 c) (nat_le c 57) d.0 in
-    let small : nat_lt n 100000 ≡ true = lt-ltb n 100000 (omega (arith, read_on-le (10 * n + (c - 48)) cs)) in
     let turned : 10 * n + (c - 48) ≡ n * 10 + (c - 48) = omega arith in
-    let h' : read_on (n * 10 + (c - 48)) cs < 1000000 = rw (← turned) h in
-    rw (p.0, p.1, small, turned) (read_digits (n * 10 + (c - 48)) cs d.1 h')
+    let h' : read_on (n * 10 + (c - 48)) cs < NODE_NUMBERS = rw (← turned) h in
+    let small : nat_lt (n * 10 + (c - 48)) NODE_NUMBERS ≡ true = lt-ltb (n * 10 + (c - 48)) NODE_NUMBERS (omega (arith, h', read_on-le (n * 10 + (c - 48)) cs)) in
+    rw (p.0, p.1, turned, small) (read_digits (n * 10 + (c - 48)) cs d.1 h')
 
 not_both : (a b : Bool) → (a && b) ≡ false → a ≡ true → b ≡ false
 not_both true b e f = e
 not_both false b e f = absurd (cc)
 
-from_text : (text : List ℕ) (n : ℕ) → number_of text ≡ Some n → (text ≡ decimal n) × (n < 1000000)
+from_text : (text : List ℕ) (n : ℕ) → node_number text ≡ Some n → (text ≡ decimal n) × (n < NODE_NUMBERS)
 from_text text n e =
     let l = left (length text == 0) _ n e in
     let k = left (slice_index text 0 == 48 && nat_lt 1 (length text)) _ n l.1 in
@@ -65,11 +66,11 @@ from_text text n e =
     let is = decimal-digits_value own text d.0 (omega arith) one (omega (arith, d.1, d.2)) in
     (sym is ∙ ap decimal d.1, d.2)
 
-no_zero : (n : ℕ) → n < 1000000 → (slice_index (decimal n) 0 == 48 && nat_lt 1 (length (decimal n))) ≡ false
+no_zero : (n : ℕ) → n < NODE_NUMBERS → (slice_index (decimal n) 0 == 48 && nat_lt 1 (length (decimal n))) ≡ false
 no_zero zero h = rw (decimal_digit 0 (omega arith)) refl
 no_zero (suc n) h = rw (ne_eqb (get_or (decimal (suc n)) 0 0) 48 (λ z. omega (arith, z, first_decimal (suc n) (omega arith) (omega arith)))) refl
 
-to_number : (n : ℕ) → n < 1000000 → number_of (decimal n) ≡ Some n
+to_number : (n : ℕ) → n < NODE_NUMBERS → node_number (decimal n) ≡ Some n
 to_number n h =
     let some : (length (decimal n) == 0) ≡ false = ne_eqb _ 0 (λ z. omega (arith, z, decimal_nonempty n (omega arith))) in
     let value : read_on 0 (decimal n) ≡ n = digits_value-decimal own n (omega arith) in

@@ -1,34 +1,23 @@
 -- Two documents that the same bytes are read as are one.
-use Rattle.std.proofs.Common.{◌≡◌, ℕ, ◌<◌, ◌≤◌, List, [], ◌∷◌, length, map, refl, sym, subst, ap, ◌∙◌}
-use Rattle.std.specs.Prelude.{◌^◌}
+use Rattle.std.proofs.Common.{◌≡◌, ℕ, List, [], ◌∷◌, map, refl, sym, subst, ap, ◌∙◌}
 use Rattle.std.specs.Coded.{le_prop}
 use Rattle.std.proofs.Math.Bool.{Bool-set}
 use Rattle.od_document.specs.declared.token.Token.{Token}
 use Rattle.od_document.specs.declared.token.Edge.{Edge}
 use Rattle.od_document.specs.declared.sentence.Sentence.{Sentence}
 use Rattle.od_document.specs.declared.doc.Doc.{Doc}
-use Rattle.od_document.specs.Edges.{EndsWithin, AreDistinct}
-use Rattle.od_document.specs.Weight.{weight_of}
 use Rattle.od_document.specs.Reading.{shown, Reads}
+use Rattle.od_document.specs.Building.{KeepsSentence, KeepsDocument, sentence_with, doc_with}
 
--- what a sentence keeps
-record Kept (tokens : List Token) (edges : List Edge) : Type 0 where
-  some : 0 < length tokens
-  few : length tokens ≤ 2000
-  ends : EndsWithin (length tokens) edges
-  distinct : AreDistinct edges
+-- what a sentence keeps is kept in one way
+KeepsSentence-prop : (p : List Token × List Edge) → IsProp (KeepsSentence p)
+KeepsSentence-prop p = hlevel (le_prop, Bool-set)
 
-Kept-prop : (tokens : List Token) (edges : List Edge) → IsProp (Kept tokens edges)
-Kept-prop tokens edges = hlevel (le_prop, Bool-set)
+sentence_with-same : (p q : List Token × List Edge) → p ≡ q → (k : KeepsSentence p) (l : KeepsSentence q) → sentence_with p k ≡ sentence_with q l
+sentence_with-same p q e = subst (λ (r : List Token × List Edge). (k : KeepsSentence p) (l : KeepsSentence r) → sentence_with p k ≡ sentence_with r l) e (λ k l. ap (sentence_with p) (KeepsSentence-prop p k l))
 
-abbrev sentence_with : (p : List Token × List Edge) → Kept p.0 p.1 → Sentence
-sentence_with p k = record { tokens = p.0; edges = p.1; some = k.some; few = k.few; ends = k.ends; distinct = k.distinct }
-
-sentence_with-same : (p q : List Token × List Edge) → p ≡ q → (k : Kept p.0 p.1) (l : Kept q.0 q.1) → sentence_with p k ≡ sentence_with q l
-sentence_with-same p q e = subst (λ (r : List Token × List Edge). (k : Kept p.0 p.1) (l : Kept r.0 r.1) → sentence_with p k ≡ sentence_with r l) e (λ k l. ap (sentence_with p) (Kept-prop p.0 p.1 k l))
-
-abbrev kept : (s : Sentence) → Kept s.tokens s.edges
-kept s = record { some = s.some; few = s.few; ends = s.ends; distinct = s.distinct }
+abbrev kept : (s : Sentence) → KeepsSentence (shown s)
+kept s = ((((s.some, s.few), s.few_edges), s.ends), s.distinct)
 
 -- a sentence is its tokens and edges
 pub shown-sentence : (s t : Sentence) → shown s ≡ shown t → s ≡ t
@@ -51,26 +40,20 @@ record DocParts : Type 0 where
   size : ℕ
   sentences : List Sentence
 
--- what a document keeps
-record DocKept (p : DocParts) : Type 0 where
-  some : 0 < length p.sentences
-  small : p.size ≤ 2 ^ 20
-  weight : weight_of p.sentences ≤ p.size
+-- what a document keeps is kept in one way
+KeepsDocument-prop : (size : ℕ) (ss : List Sentence) → IsProp (KeepsDocument size ss)
+KeepsDocument-prop size ss = hlevel le_prop
 
-DocKept-prop : (p : DocParts) → IsProp (DocKept p)
-DocKept-prop p = hlevel le_prop
-
-abbrev doc_with : (p : DocParts) → DocKept p → Doc
-doc_with p k = record { name = p.name; size = p.size; sentences = p.sentences; some = k.some; small = k.small; weight = k.weight }
-
-doc_with-same : (p q : DocParts) → p ≡ q → (k : DocKept p) (l : DocKept q) → doc_with p k ≡ doc_with q l
-doc_with-same p q e = subst (λ (r : DocParts). (k : DocKept p) (l : DocKept r) → doc_with p k ≡ doc_with r l) e (λ k l. ap (doc_with p) (DocKept-prop p k l))
+doc_with-same : (p q : DocParts) → p ≡ q → (k : KeepsDocument p.size p.sentences) (l : KeepsDocument q.size q.sentences)
+    → doc_with p.name p.size p.sentences k ≡ doc_with q.name q.size q.sentences l
+doc_with-same p q e = subst (λ (r : DocParts). (k : KeepsDocument p.size p.sentences) (l : KeepsDocument r.size r.sentences) → doc_with p.name p.size p.sentences k ≡ doc_with r.name r.size r.sentences l) e
+    (λ k l. ap (doc_with p.name p.size p.sentences) (KeepsDocument-prop p.size p.sentences k l))
 
 abbrev doc_parts : Doc → DocParts
 doc_parts d = record { name = d.name; size = d.size; sentences = d.sentences }
 
-abbrev doc_kept : (d : Doc) → DocKept (doc_parts d)
-doc_kept d = record { some = d.some; small = d.small; weight = d.weight }
+abbrev doc_kept : (d : Doc) → KeepsDocument d.size d.sentences
+doc_kept d = ((d.some, d.small), d.parts)
 
 -- a document is its name, size and sentences
 pub same_doc : (d e : Doc) → d.name ≡ e.name → d.size ≡ e.size → d.sentences ≡ e.sentences → d ≡ e

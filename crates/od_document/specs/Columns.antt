@@ -3,10 +3,11 @@ use Rattle.std.specs.Prelude.{◌≡◌, ◌↔◌, ◌<◌, decimal, ℕ, ◌+�
 use Rattle.std.specs.Option.{option_or, is_some}
 use Rattle.std.specs.Str.{bytes_eq}
 use Rattle.std.specs.List.{slice_split}
+use Rattle.od_document.specs.declared.limits.TheConstants.{NODE_NUMBERS}
 use Rattle.od_text.specs.Cuts.{split_once}
 
--- the columns ID, FORM, LEMMA, UPOS, XPOS, HEAD, DEPREL and MISC of a line; FEATS and DEPS are not read
-pub record Row : Type 0 where
+-- the columns of a line that are read: all but FEATS and DEPS
+pub record LineColumns : Type 0 where
   pub id : List ℕ
   pub form : List ℕ
   pub lemma : List ℕ
@@ -20,23 +21,39 @@ pub record Row : Type 0 where
 abbrev pub columns_of : List ℕ → List (List ℕ)
 columns_of text = slice_split (λ b. b == 9) text
 
--- the ten columns of a line; with fewer or more of them it is no row
-abbrev pub row_of : List (List ℕ) → Option Row
-row_of (id ∷ form ∷ lemma ∷ upos ∷ xpos ∷ feats ∷ head ∷ deprel ∷ deps ∷ misc ∷ []) = Some (record { id = id; form = form; lemma = lemma; upos = upos; xpos = xpos; head = head; deprel = deprel; misc = misc })
-row_of columns = None
+-- the columns of a line that has ten of them, no fewer and no more
+abbrev pub line_columns_of : List (List ℕ) → Option LineColumns
+line_columns_of (id ∷ form ∷ lemma ∷ upos ∷ xpos ∷ feats ∷ head ∷ deprel ∷ deps ∷ misc ∷ []) =
+    Some (record {
+      id = id;
+      form = form;
+      lemma = lemma;
+      upos = upos;
+      xpos = xpos;
+      head = head;
+      deprel = deprel;
+      misc = misc;
+    })
+line_columns_of columns = None
 
--- the number whose digits are those of n and then these, six at most
+-- the number whose digits are those of n and then these, where it is not too great
 abbrev pub digits_after : ℕ → List ℕ → Option ℕ
 digits_after n [] = Some n
-digits_after n (c ∷ text) = if nat_le 48 c && nat_le c 57 && nat_lt n 100000 then digits_after (n * 10 + (c - 48)) text else None
+digits_after n (c ∷ text) =
+    if nat_le 48 c && nat_le c 57 && nat_lt (n * 10 + (c - 48)) NODE_NUMBERS
+    then digits_after (n * 10 + (c - 48)) text else None
 
--- a number: 1 to 6 digits without a leading zero, or 0
-abbrev pub number_of : List ℕ → Option ℕ
-number_of text = if length text == 0 then None else (if slice_index text 0 == 48 && nat_lt 1 (length text) then None else digits_after 0 text)
+-- a number of a node, as ID and HEAD have it: 1 to 6 digits without a leading zero, or 0
+abbrev pub node_number : List ℕ → Option ℕ
+node_number text =
+    if length text == 0 then None else
+    (if slice_index text 0 == 48 && nat_lt 1 (length text) then None else digits_after 0 text)
 
 -- a text is a number exactly where it is what is written for one below a million
 abbrev pub ReadsNumbers : Type 0
-ReadsNumbers = (text : List ℕ) (n : ℕ) → (number_of text ≡ Some n) ↔ ((text ≡ decimal n) × (n < 1000000))
+ReadsNumbers =
+    (text : List ℕ) (n : ℕ)
+    → (node_number text ≡ Some n) ↔ ((text ≡ decimal n) × (n < NODE_NUMBERS))
 
 -- the number, where it is not 0
 abbrev pub at_least_one : Option ℕ → Option ℕ
@@ -45,7 +62,7 @@ at_least_one (Some n) = if n == 0 then None else Some n
 
 -- the ID of a word: a number from 1
 abbrev pub word_id : List ℕ → Option ℕ
-word_id text = at_least_one (number_of text)
+word_id text = at_least_one (node_number text)
 
 -- whether both numbers are there and the first is not greater than the second
 abbrev pub are_in_order : Option ℕ → Option ℕ → Bool
@@ -60,15 +77,15 @@ is_range (Some p) = are_in_order (word_id p.0) (word_id p.1)
 -- the ID of an empty node, cut at its `.`: a.b with b at least 1
 abbrev pub is_empty_node : Option (List ℕ × List ℕ) → Bool
 is_empty_node None = false
-is_empty_node (Some p) = is_some (number_of p.0) && is_some (word_id p.1)
+is_empty_node (Some p) = is_some (node_number p.0) && is_some (word_id p.1)
 
 -- whether an ID is that of a range line or of an empty node
 abbrev pub is_range_or_empty_node : List ℕ → Bool
 is_range_or_empty_node text = is_range (split_once 45 text) || is_empty_node (split_once 46 text)
 
 -- HEAD: `_`, which counts as 0, or a number
-abbrev pub head_of : List ℕ → Option ℕ
-head_of text = if bytes_eq text (95 ∷ []) then Some 0 else number_of text
+abbrev pub governor_of : List ℕ → Option ℕ
+governor_of text = if bytes_eq text (95 ∷ []) then Some 0 else node_number text
 
 -- a column's value: none where it is `_` or empty
 abbrev pub column_value : List ℕ → Option (List ℕ)
@@ -86,7 +103,8 @@ value_at_key key (Some p) = if bytes_eq p.0 key then Some p.1 else None
 -- the value of the first item that has this key
 abbrev pub first_value : List ℕ → List (List ℕ) → Option (List ℕ)
 first_value key [] = None
-first_value key (item ∷ items) = option_or (value_at_key key (split_once 61 item)) (first_value key items)
+first_value key (item ∷ items) =
+    option_or (value_at_key key (split_once 61 item)) (first_value key items)
 
 -- the value that MISC, whose items stand between `|`, has for this key
 abbrev pub misc_value : List ℕ → List ℕ → Option (List ℕ)

@@ -6,5 +6,5 @@ pub mod Faults
 pub mod Laws
 pub mod Lines
 pub mod Reading
-pub mod Weight
+pub mod Size
 pub mod Words

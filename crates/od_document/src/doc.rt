@@ -1,6 +1,7 @@
 //! Documents.
-ghost use Rattle.std.specs.Prelude.{◌^◌, ◌<◌, ◌≤◌, length};
-ghost use Rattle.od_document.specs.Weight.{weight_of};
+ghost use Rattle.std.specs.Prelude.{◌<◌, ◌≤◌, length};
+ghost use Rattle.od_document.specs.Size.{size_in_parts};
+ghost use Rattle.od_document.specs.declared.limits.TheConstants.{DOCUMENT_BYTES};
 
 use crate::sentence::Sentence;
 use od_text::list::List;
@@ -14,6 +15,6 @@ pub struct Doc {
     pub size: u32,
     pub sentences: List<Sentence>,
     pub ghost some: { 0 < length sentences },
-    pub ghost small: { size ≤ 2 ^ 20 },
-    pub ghost weight: { weight_of sentences ≤ size },
+    pub ghost small: { size ≤ DOCUMENT_BYTES },
+    pub ghost parts: { size_in_parts sentences ≤ size },
 }

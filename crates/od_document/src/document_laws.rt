@@ -1,6 +1,7 @@
 //! Laws of the definitions on documents, each the contract of a function that does nothing.
 ghost use Rattle.od_document.specs.Columns.{ReadsNumbers};
-ghost use Rattle.od_document.specs.Laws.{BuildsDocuments, DistinctDiffer, IsDocumentOrFault, ReadsOnce};
+ghost use Rattle.od_document.specs.Laws.{IsDocumentOrFault, ReadsOnce};
+ghost use Rattle.od_document.specs.Laws.{BuildsDocuments, DistinctDiffer};
 
 /// Any bytes are a document or have a first fault, and never both.
 pub fn document_or_fault()
@@ -12,7 +13,7 @@ pub fn reads_once()
     ensures { ReadsOnce }
 {}
 
-/// The document of some bytes is the one that they are read as, and none exactly where they have a fault.
+/// The document of some bytes is what they are read as, and none exactly where they have a fault.
 pub fn builds_documents()
     ensures { BuildsDocuments }
 {}

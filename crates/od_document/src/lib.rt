@@ -4,5 +4,6 @@
 pub mod conllu;
 pub mod doc;
 pub mod document_laws;
+pub mod limits;
 pub mod sentence;
 pub mod token;

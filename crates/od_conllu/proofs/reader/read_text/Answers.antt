@@ -1,60 +1,41 @@
-use Rattle.std.proofs.Common.{rules, ◌+◌, ◌∷◌, [], List, subst, sym, arith, ℕ}
-use Rattle.std.specs.Str.Lines.{lines, lines_of_parts}
+use Rattle.std.proofs.Common.{length, arith, refl}
+use Rattle.std.proofs.lemmas.Iterator.Splits.{YieldsList-from_lines}
+use Rattle.std.proofs.lemmas.Iterator.Consumers.{YieldsList-turn, YieldsList-end}
+use Rattle.std.proofs.lemmas.List.{length_push}
 use Rattle.std.proofs.lemmas.Result.{err_from_is_err_and}
-use Rattle.od_document.specs.declared.sentence.Sentence.{Sentence}
-use Rattle.od_document.specs.Lines.{Line, blocks_of, lines_of, numbered}
-use Rattle.od_conllu.specs.Reached.{Reaches}
-use Rattle.od_conllu.proofs.Lines.{lines_last, numbered_more}
-use Rattle.od_conllu.proofs.Reached.{reaches_none, with_rest}
-use Rattle.od_conllu.proofs.Told.{ok_at, err_at, bad_at}
+use Rattle.std.specs.Str.Lines.{lines}
+use Rattle.od_document.specs.Lines.{blocks_of, lines_of}
+use Rattle.od_conllu.proofs.Reached.{reaches_none, reaches_more, step_bad, reads_end, end_bad, at_line, at_end}
 use Rattle.od_conllu.proofs.reader.read_text.Goals as goal
 
-pub lines-init : goal.lines-init
-lines-init c = record {
-  at = subst (λ (ss : List Sentence). Reaches (blocks_of c.args.text.now) (lines_of c.args.text.now) ss c.new-draft.result) (sym c.new-sentences.ensures.items) (reaches_none (lines_of c.args.text.now) c.new-draft.result c.new-draft.ensures);
-  count = omega arith;
-  text = c.utf8.text;
-}
+pub loop-line-init : goal.loop-line-init
+loop-line-init c = (rw (c.new-sentences.ensures.items, c.new-draft.ensures) (reaches_none (lines_of c.args.text.now)), refl)
 
-pub take_last-requires : goal.take_last-requires
-take_last-requires c =
-    (blocks_of c.args.text.now, subst (λ (ls : List (List ℕ)). Reaches (blocks_of c.args.text.now) (numbered c.lines.number ls) c.lines.sentences.items c.lines.draft) (lines_last c.lines.rest.now c.in-None.ensures) c.lines.invariant.at)
-
-pub returns-in-None-clause-ok : goal.returns-in-None-clause-ok
-returns-in-None-clause-ok c =
-    ok_at c.take_last.result (λ all. Reaches all (numbered c.lines.number (lines_of_parts (c.lines.rest.now ∷ []))) c.lines.sentences.items c.lines.draft) (blocks_of c.args.text.now)
-    (subst (λ (ls : List (List ℕ)). Reaches (blocks_of c.args.text.now) (numbered c.lines.number ls) c.lines.sentences.items c.lines.draft) (lines_last c.lines.rest.now c.in-None.ensures) c.lines.invariant.at)
-    c.take_last.ensures.ok
-
-pub returns-in-None-clause-bad : goal.returns-in-None-clause-bad
-returns-in-None-clause-bad c =
-    err_at c.take_last.result (λ all. Reaches all (numbered c.lines.number (lines_of_parts (c.lines.rest.now ∷ []))) c.lines.sentences.items c.lines.draft) (blocks_of c.args.text.now)
-    (subst (λ (ls : List (List ℕ)). Reaches (blocks_of c.args.text.now) (numbered c.lines.number ls) c.lines.sentences.items c.lines.draft) (lines_last c.lines.rest.now c.in-None.ensures) c.lines.invariant.at)
-    c.take_last.ensures.bad
-
-pub take_line-requires : goal.take_line-requires
-take_line-requires c = (
-  blocks_of c.args.text.now,
-  numbered (c.lines.number + 1) (lines c.in-Some.more.now),
-  subst (λ (ls : List Line). Reaches (blocks_of c.args.text.now) ls c.lines.sentences.items c.lines.draft)
-      (numbered_more c.lines.number c.lines.rest.now c.strip_return-line.result.now c.in-Some.front.now c.in-Some.more.now c.in-Some.ensures.0 c.strip_return-line.ensures) c.lines.invariant.at,
-)
-
-pub returns-in_err-draft-in-Some-clause-bad : goal.returns-in_err-draft-in-Some-clause-bad
-returns-in_err-draft-in-Some-clause-bad c =
-    let line : Line = record { number = c.lines.number; text = c.strip_return-line.result.now } in
-    let rest : List Line = numbered (c.lines.number + 1) (lines c.in-Some.more.now) in
+pub returns-in_err-take_line-clause-bad : goal.returns-in_err-take_line-clause-bad
+returns-in_err-take_line-clause-bad c =
+    let turn = YieldsList-turn (YieldsList-from_lines c.args.text.now cc) c.loop-line.yielded _ c.loop-line.yielded_by _ _ c.in-Some.line c.in-Some.is c.next.ensures.steps in
+    let here = at_line (blocks_of c.args.text.now) c.loop-line.number (length c.loop-line.yielded) (lines c.args.text.now) c.in-Some.line.now c.loop-line.sentences.items c.loop-line.draft c.loop-line.invariant.0 turn in
     let p = err_from_is_err_and c.from_residual.result c.from_residual.ensures.1 in
-    rw (p.1, p.2) (bad_at c.in_err-draft-in-Some.field-0.0 (λ all. Reaches all (line ∷ rest) c.lines.sentences.items c.lines.draft) (blocks_of c.args.text.now)
-    (subst (λ (ls : List Line). Reaches (blocks_of c.args.text.now) ls c.lines.sentences.items c.lines.draft)
-    (numbered_more c.lines.number c.lines.rest.now c.strip_return-line.result.now c.in-Some.front.now c.in-Some.more.now c.in-Some.ensures.0 c.strip_return-line.ensures) c.lines.invariant.at)
-    (with_rest line rest c.lines.sentences.items c.lines.draft c.in_err-draft-in-Some.field-0.0 c.in_err-draft-in-Some.ensures.bad))
+    rw (p.1, p.2) (step_bad (blocks_of c.args.text.now) _ _ c.loop-line.sentences.items c.loop-line.draft c.in_err-take_line.field-0.0 here c.in_err-take_line.ensures.bad)
 
-pub lines-preserved : goal.lines-preserved
-lines-preserved c = record {
-  at = c.in_ok-draft-in-Some.ensures.ok (blocks_of c.args.text.now) (numbered (c.lines.number + 1) (lines c.in-Some.more.now))
-      (subst (λ (ls : List Line). Reaches (blocks_of c.args.text.now) ls c.lines.sentences.items c.lines.draft)
-      (numbered_more c.lines.number c.lines.rest.now c.strip_return-line.result.now c.in-Some.front.now c.in-Some.more.now c.in-Some.ensures.0 c.strip_return-line.ensures) c.lines.invariant.at);
-  count = omega (arith, c.in-Some.ensures.1);
-  text = search rules;
-}
+pub loop-line-preserved : goal.loop-line-preserved
+loop-line-preserved c =
+    let turn = YieldsList-turn (YieldsList-from_lines c.args.text.now cc) c.loop-line.yielded _ c.loop-line.yielded_by _ _ c.in-Some.line c.in-Some.is c.next.ensures.steps in
+    let here = at_line (blocks_of c.args.text.now) c.loop-line.number (length c.loop-line.yielded) (lines c.args.text.now) c.in-Some.line.now c.loop-line.sentences.items c.loop-line.draft c.loop-line.invariant.0 turn in
+    let more = length_push c.loop-line.yielded c.in-Some.line in (
+      rw more (reaches_more (blocks_of c.args.text.now) _ _ c.loop-line.sentences.items c.take_line.new.sentences.items c.loop-line.draft c.take_line.new.draft here c.in_ok-take_line.ensures.ok),
+      omega (arith, more, c.loop-line.invariant.1),
+    )
+
+pub returns-in_err-end_sentence-clause-bad : goal.returns-in_err-end_sentence-clause-bad
+returns-in_err-end_sentence-clause-bad c =
+    let end = YieldsList-end (YieldsList-from_lines c.args.text.now cc) c.loop-line.yielded _ c.loop-line.yielded_by _ _ c.in-None.is c.next.ensures.steps in
+    let here = at_end (blocks_of c.args.text.now) c.loop-line.number (length c.loop-line.yielded) (lines c.args.text.now) c.loop-line.sentences.items c.loop-line.draft c.loop-line.invariant.0 (omega (arith, end.1)) in
+    let p = err_from_is_err_and c.from_residual-in_err-end_sentence.result c.from_residual-in_err-end_sentence.ensures.1 in
+    rw (p.1, p.2) (end_bad (blocks_of c.args.text.now) c.loop-line.sentences.items c.loop-line.draft c.in_err-end_sentence.field-0.0 here c.in_err-end_sentence.ensures.bad)
+
+pub returns-clause-ok : goal.returns-clause-ok
+returns-clause-ok c =
+    let end = YieldsList-end (YieldsList-from_lines c.args.text.now cc) c.loop-line.yielded _ c.loop-line.yielded_by _ _ c.in-None.is c.next.ensures.steps in
+    let here = at_end (blocks_of c.args.text.now) c.loop-line.number (length c.loop-line.yielded) (lines c.args.text.now) c.loop-line.sentences.items c.loop-line.draft c.loop-line.invariant.0 (omega (arith, end.1)) in
+    reads_end (blocks_of c.args.text.now) c.loop-line.sentences.items c.end_sentence.new.sentences.items c.loop-line.draft here c.in_ok-end_sentence.ensures.ok c.in_ok-end_sentence.ensures.kept

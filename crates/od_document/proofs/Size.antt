@@ -1,19 +1,20 @@
--- A document weighs at most what its bytes do.
+-- A document has no more parts than bytes.
 use Rattle.std.proofs.Common.{◌≡◌, ℕ, ◌+◌, ◌-◌, ◌*◌, ◌≤◌, List, [], ◌∷◌, length, length-drop, drop, map, take, Bool, true, false, refl, ap, arith, Option, None, Some, length-append}
 use Rattle.std.specs.Prelude.{◌==◌, if◌then◌else◌, nat_lt, nat_eq, slice_index, cond}
 use Rattle.std.specs.List.{slice_split, onto_first, cons_option, starts_with}
 use Rattle.std.specs.Str.Lines.{lines, lines_of_parts, strip_carriage_return}
 use Rattle.std.proofs.lemmas.Bool.{ltb-true}
 use Rattle.std.proofs.lemmas.Grind.{common_steps}
+use Rattle.std.proofs.lemmas.List.{length-map}
 use Rattle.od_document.specs.declared.token.Token.{Token}
 use Rattle.od_document.specs.declared.token.Edge.{Edge}
 use Rattle.od_document.specs.declared.sentence.Sentence.{Sentence}
 use Rattle.od_document.specs.Lines.{Line, is_blank, lines_of, numbered, blocks_of, without_mark}
-use Rattle.od_document.specs.Columns.{Row, row_of, columns_of, word_id}
+use Rattle.od_document.specs.Columns.{LineColumns, line_columns_of, columns_of, word_id}
 use Rattle.od_document.specs.Words.{WordLine, no_word, word_lines_of, content_of, content_by_columns, content_by_id, word_line_at, edges_from, edge_of, head_number, token_of}
 use Rattle.od_document.specs.Faults.{sentences_in}
-use Rattle.od_document.specs.Reading.{shown, parts_of}
-use Rattle.od_document.specs.Weight.{weight, weight_of}
+use Rattle.od_document.specs.Reading.{shown, tokens_and_edges}
+use Rattle.od_document.specs.Size.{sentence_parts, size_in_parts}
 
 -- the sum over a list, and over a list of lists
 abbrev pub total : {X : Type 0} → (X → ℕ) → List X → ℕ
@@ -77,31 +78,31 @@ split_length : {X : Type 0} (p : X → Bool) (xs : List X) → length (slice_spl
 split_length p [] = omega arith
 split_length p (x ∷ xs) = omega (arith, cond_length (p x) x (slice_split p xs) (length xs) (split_length p xs))
 
-row_long : (cs : List (List ℕ)) (row : Row) → row_of cs ≡ Some row → 10 ≤ length cs
-row_long [] row e = absurd (cc)
-row_long (a ∷ []) row e = absurd (cc)
-row_long (a ∷ b ∷ []) row e = absurd (cc)
-row_long (a ∷ b ∷ c ∷ []) row e = absurd (cc)
-row_long (a ∷ b ∷ c ∷ d ∷ []) row e = absurd (cc)
-row_long (a ∷ b ∷ c ∷ d ∷ g ∷ []) row e = absurd (cc)
-row_long (a ∷ b ∷ c ∷ d ∷ g ∷ h ∷ []) row e = absurd (cc)
-row_long (a ∷ b ∷ c ∷ d ∷ g ∷ h ∷ i ∷ []) row e = absurd (cc)
-row_long (a ∷ b ∷ c ∷ d ∷ g ∷ h ∷ i ∷ j ∷ []) row e = absurd (cc)
-row_long (a ∷ b ∷ c ∷ d ∷ g ∷ h ∷ i ∷ j ∷ k ∷ []) row e = absurd (cc)
-row_long (a ∷ b ∷ c ∷ d ∷ g ∷ h ∷ i ∷ j ∷ k ∷ l ∷ more) row e = omega arith
+columns_long : (cs : List (List ℕ)) (columns : LineColumns) → line_columns_of cs ≡ Some columns → 10 ≤ length cs
+columns_long [] columns e = absurd (cc)
+columns_long (a ∷ []) columns e = absurd (cc)
+columns_long (a ∷ b ∷ []) columns e = absurd (cc)
+columns_long (a ∷ b ∷ c ∷ []) columns e = absurd (cc)
+columns_long (a ∷ b ∷ c ∷ d ∷ []) columns e = absurd (cc)
+columns_long (a ∷ b ∷ c ∷ d ∷ g ∷ []) columns e = absurd (cc)
+columns_long (a ∷ b ∷ c ∷ d ∷ g ∷ h ∷ []) columns e = absurd (cc)
+columns_long (a ∷ b ∷ c ∷ d ∷ g ∷ h ∷ i ∷ []) columns e = absurd (cc)
+columns_long (a ∷ b ∷ c ∷ d ∷ g ∷ h ∷ i ∷ j ∷ []) columns e = absurd (cc)
+columns_long (a ∷ b ∷ c ∷ d ∷ g ∷ h ∷ i ∷ j ∷ k ∷ []) columns e = absurd (cc)
+columns_long (a ∷ b ∷ c ∷ d ∷ g ∷ h ∷ i ∷ j ∷ k ∷ l ∷ more) columns e = omega arith
 
-word_long : (n : ℕ) (text : List ℕ) (t : Bool) (cs : List (List ℕ)) (o : Option Row) → row_of cs ≡ o → length cs ≤ length text + 1
+word_long : (n : ℕ) (text : List ℕ) (t : Bool) (cs : List (List ℕ)) (o : Option LineColumns) → line_columns_of cs ≡ o → length cs ≤ length text + 1
     → 3 * length (cons_option (word_line_at n (if t then no_word else content_by_columns o)) []) ≤ length text
 word_long n text true cs o e h = omega arith
 word_long n text false cs None e h = omega arith
-word_long n text false cs (Some row) e h = by (word_line_at n (content_by_id row (word_id row.id))) (row_long cs row e)
+word_long n text false cs (Some columns) e h = by (word_line_at n (content_by_id columns (word_id columns.id))) (columns_long cs columns e)
   where
     by : (w : Option WordLine) → 10 ≤ length cs → 3 * length (cons_option w []) ≤ length text
     by None long = omega arith
     by (Some w) long = omega arith
 
 line_long : (l : Line) → 3 * length (word_lines_of (l ∷ [])) ≤ length l.text
-line_long l = word_long l.number l.text (slice_index l.text 0 == 35) (columns_of l.text) (row_of (columns_of l.text)) refl (split_length (λ b. b == 9) l.text)
+line_long l = word_long l.number l.text (slice_index l.text 0 == 35) (columns_of l.text) (line_columns_of (columns_of l.text)) refl (split_length (λ b. b == 9) l.text)
 
 pub cons_length : {X : Type 0} (o : Option X) (xs : List X) → length (cons_option o xs) ≡ length (cons_option o []) + length xs
 cons_length None xs = omega arith
@@ -119,34 +120,30 @@ edge_short p w = by (head_number w == 0) _
     by true e = omega arith
     by false e = omega arith
 
-edges_short : (p : ℕ) (ws : List WordLine) → length (edges_from p ws) ≤ length ws
+pub edges_short : (p : ℕ) (ws : List WordLine) → length (edges_from p ws) ≤ length ws
 edges_short p [] = omega arith
 edges_short p (w ∷ ws) = omega (arith, edge_short p w, edges_short (p + 1) ws, length-append (edge_of p w) (edges_from (p + 1) ws))
 
--- the weight of what sentences show
-abbrev weight_shown : List (List Token × List Edge) → ℕ
-weight_shown [] = 0
-weight_shown (p ∷ ps) = (1 + length p.0 + length p.1) + weight_shown ps
+-- the size of what sentences show
+abbrev size_shown : List (List Token × List Edge) → ℕ
+size_shown [] = 0
+size_shown (p ∷ ps) = (1 + length p.0 + length p.1) + size_shown ps
 
-shown_weight : (ss : List Sentence) → weight_of ss ≡ weight_shown (map shown ss)
-shown_weight [] = refl
-shown_weight (s ∷ ss) = ap (λ n. weight s + n) (shown_weight ss)
+shown_size : (ss : List Sentence) → size_in_parts ss ≡ size_shown (map shown ss)
+shown_size [] = refl
+shown_size (s ∷ ss) = ap (λ n. sentence_parts s + n) (shown_size ss)
 
-length_map : {X Y : Type 0} (f : X → Y) (xs : List X) → length (map f xs) ≡ length xs
-length_map f [] = refl
-length_map f (x ∷ xs) = omega (arith, length_map f xs)
+filled_size : (t : Bool) (ws : List WordLine) (rest : List (List WordLine)) → nat_lt 0 (length ws) ≡ t
+    → size_shown (map tokens_and_edges (cond t (ws ∷ rest) rest)) ≤ 3 * length ws + size_shown (map tokens_and_edges rest)
+filled_size true ws rest e = omega (arith, ltb-true 0 (length ws) e, edges_short 0 ws, length-map ws token_of)
+filled_size false ws rest e = omega arith
 
-filled_weight : (t : Bool) (ws : List WordLine) (rest : List (List WordLine)) → nat_lt 0 (length ws) ≡ t
-    → weight_shown (map parts_of (cond t (ws ∷ rest) rest)) ≤ 3 * length ws + weight_shown (map parts_of rest)
-filled_weight true ws rest e = omega (arith, ltb-true 0 (length ws) e, edges_short 0 ws, length_map token_of ws)
-filled_weight false ws rest e = omega arith
-
-sentences_short : (bs : List (List Line)) → weight_shown (map parts_of (sentences_in bs)) ≤ total_of (λ (l : Line). length l.text) bs
+sentences_short : (bs : List (List Line)) → size_shown (map tokens_and_edges (sentences_in bs)) ≤ total_of (λ (l : Line). length l.text) bs
 sentences_short [] = omega arith
-sentences_short (b ∷ bs) = omega (arith, filled_weight (nat_lt 0 (length (word_lines_of b))) (word_lines_of b) (sentences_in bs) refl, words_short b, sentences_short bs)
+sentences_short (b ∷ bs) = omega (arith, filled_size (nat_lt 0 (length (word_lines_of b))) (word_lines_of b) (sentences_in bs) refl, words_short b, sentences_short bs)
 
-pub weight_short : (text : List ℕ) (ss : List Sentence) → map shown ss ≡ map parts_of (sentences_in (blocks_of text)) → weight_of ss ≤ length text
-weight_short text ss e = omega (arith, shown_weight ss, ap weight_shown e, sentences_short (blocks_of text), blocks_short text)
+pub size_short : (text : List ℕ) (ss : List Sentence) → map shown ss ≡ map tokens_and_edges (sentences_in (blocks_of text)) → size_in_parts ss ≤ length text
+size_short text ss e = omega (arith, shown_size ss, ap size_shown e, sentences_short (blocks_of text), blocks_short text)
 
 pub mark_short : (bytes : List ℕ) → length (without_mark bytes) ≤ length bytes
 mark_short bytes = by (starts_with nat_eq bytes (239 ∷ 187 ∷ 191 ∷ []))
