@@ -11,14 +11,15 @@
 //!
 //! A word is 1 to 64 ASCII letters. A name is 1 to 64 bytes: ASCII letters, digits, `_`, `.` and `-`.
 //! A number is `0`, or up to 9 digits without a leading zero. A script has at most 64 MiB.
-ghost use Rattle.std.specs.Prelude.{◌≡◌, ◌≤◌, ◌++◌, [], ◌∷◌, ℕ, List as Seq, Some, None, IfOk, IsErrOf, length};
+ghost use Rattle.std.specs.Prelude.{◌≡◌, ◌≤◌, ◌++◌, [], ◌∷◌, Some, None, IfOk, IsErrOf, length};
 ghost use Rattle.std.specs.List.{list_all};
 ghost use Rattle.std.specs.Option.{option_map};
 ghost use Rattle.std.specs.Str.{IsAscii, bytes_eq};
-ghost use Rattle.od_pattern.specs.declared.grammar.Head.{Head as HeadOf};
 ghost use Rattle.od_language.specs.Query.{words_of};
-ghost use Rattle.od_order.specs.Thin.{is_name_byte, is_name, digits_from, number_of, parts_of, query_line, doc_words, open_words, script_behind, script_of};
-ghost use Rattle.od_script.specs.Scripts.{head_shown, count_shown, opened, orders_shown, head_of, script_shown, IsBlock};
+ghost use Rattle.od_order.specs.Thin.{is_name_byte, is_name, digits_from, number_of, parts_of, query_line, doc_words, open_words, script_of};
+ghost use Rattle.od_script.specs.declared.script.ScriptFault.TheVariants.{NoMemory as OutOfMemory};
+ghost use Rattle.od_script.specs.declared.script.TheConstants.{NUMBER_DIGITS};
+ghost use Rattle.od_script.specs.Scripts.{head_shown, count_shown, adding_shown, opening_shown, orders_shown, head_of, script_shown, IsBlock, IsEnding};
 
 use od_command::history::Command;
 use od_order::script::{Order, Script};
@@ -33,10 +34,19 @@ use std::str::from_utf8;
 /// Why no script was read.
 #[derive(Clone, Copy, Debug, PartialEq, Eq)]
 pub enum ScriptFault {
-    /// The bytes are no script of this stage, which has one query, one client, one document and one session.
+    /// The bytes are no script of this stage, which has one query, one client, one document and
+    /// one session.
     Later,
     /// Memory was refused.
     NoMemory,
+}
+
+impl From<NoMemory> for ScriptFault {
+    ghost from_gives = { λ _ fault. fault ≡ OutOfMemory };
+
+    fn from(_refused: NoMemory) -> ScriptFault {
+        ScriptFault::NoMemory
+    }
 }
 
 /// What a script says, borrowed from its bytes.
@@ -56,7 +66,7 @@ struct Pieces<'a> {
 }
 
 /// The most bytes of a script, 64 MiB.
-const SCRIPT_BYTES: usize = 67108864;
+const SCRIPT_BYTES: usize = 67_108_864;
 
 /// The most bytes of a name.
 const NAME_BYTES: usize = 64;
@@ -105,7 +115,7 @@ fn ascii(bytes: &[u8]) -> &str
 
 /// The number of these digits.
 fn digits(text: &[u8]) -> Option<u32>
-    requires { length text.now ≤ 9 }
+    requires { length text.now ≤ NUMBER_DIGITS }
     ensures { result ≡ digits_from 0 text.now }
 {
     let mut number = 0u32;
@@ -206,9 +216,10 @@ fn block(bytes: &[u8], count: u32) -> Option<(&[u8], &[u8])>
     Some(bytes.split_at(bytes.len() - rest.len()))
 }
 
-/// The session and its limit, from the lines behind the document's block: open, run and print, and no more.
+/// The session and its limit, from the lines behind the document's block: open, run and print, and
+/// no more.
 fn ending<'a>(grammar: &str, bytes: &'a [u8]) -> Option<(&'a str, u32)>
-    ensures { (head : HeadOf) (doc body : Seq ℕ) → head.name ≡ grammar.now → script_behind head doc body (parts_of bytes.now) ≡ option_map (opened head doc body) result }
+    ensures { IsEnding grammar.now bytes.now result }
 {
     let (open, rest) = cut(bytes, b'\n')?;
     let (run, rest) = cut(rest, b'\n')?;
@@ -262,7 +273,7 @@ fn single<T: Drop>(alloc: Global, item: T) -> Result<List<T>, NoMemory>
 
 /// The command that adds the document.
 fn adding(alloc: Global, pieces: &Pieces<'_>) -> Result<Command, NoMemory>
-    ensures { IfOk result (λ command. command ≡ Command.AddDoc pieces.now.document.now pieces.now.body.now) }
+    ensures { IfOk result (λ command. command ≡ adding_shown pieces.now) }
 {
     Ok(Command::AddDoc {
         name: Text::from_str(alloc, pieces.document)?,
@@ -272,7 +283,7 @@ fn adding(alloc: Global, pieces: &Pieces<'_>) -> Result<Command, NoMemory>
 
 /// The command that opens the session.
 fn opening(alloc: Global, pieces: &Pieces<'_>) -> Result<Command, NoMemory>
-    ensures { IfOk result (λ command. command ≡ Command.OpenSession pieces.now.session.now pieces.now.grammar.now pieces.now.limit) }
+    ensures { IfOk result (λ command. command ≡ opening_shown pieces.now) }
 {
     Ok(Command::OpenSession {
         name: Text::from_str(alloc, pieces.session)?,
@@ -319,8 +330,8 @@ fn script(alloc: Global, pieces: &Pieces<'_>) -> Result<Script, NoMemory>
     })
 }
 
-/// Reads a script. The document's block and the query's words are taken as they stand: neither is tested as a
-/// document, nor folded.
+/// Reads a script. The document's block and the query's words are taken as they stand: neither is
+/// tested as a document, nor folded.
 pub fn read_script(alloc: Global, bytes: &[u8]) -> Result<Script, ScriptFault>
     ensures ok { IfOk result (λ script. script_of bytes.now ≡ Some script) }
     ensures later { IsErrOf result ScriptFault.Later → script_of bytes.now ≡ None }
@@ -328,10 +339,8 @@ pub fn read_script(alloc: Global, bytes: &[u8]) -> Result<Script, ScriptFault>
     let Some(pieces) = pieces_of(bytes) else {
         return Err(ScriptFault::Later);
     };
-    match script(alloc, &pieces) {
-        Ok(script) => Ok(script),
-        Err(NoMemory) => Err(ScriptFault::NoMemory),
-    }
+    let script = script(alloc, &pieces)?;
+    Ok(script)
 }
 
 #[cfg(test)]
@@ -347,10 +356,6 @@ mod tests {
         2\tsleep\tsleep\tVERB\tVBP\t_\t0\troot\t_\t_\n\
         \n\
         open s q 5\nrun s\nprint s\n";
-
-    fn is_refused(alloc: Global, bytes: &[u8]) -> bool {
-        matches!(read_script(alloc, bytes), Err(ScriptFault::Later))
-    }
 
     #[test]
     fn the_first_example_has_one_head_and_four_orders(rt: HostRuntime) {
@@ -386,50 +391,5 @@ mod tests {
         assert_eq!(rt; *limit, 5);
         assert!(rt; matches!(running, Order::Run(_)));
         assert!(rt; matches!(printing, Order::One(Command::Print { .. })));
-    }
-
-    #[test]
-    fn a_last_line_without_its_line_feed_is_refused(rt: HostRuntime) {
-        let cut = &EXAMPLE[..EXAMPLE.len() - 1];
-        assert!(rt; is_refused(rt.alloc(), cut));
-    }
-
-    #[test]
-    fn no_bytes_are_refused(rt: HostRuntime) {
-        assert!(rt; is_refused(rt.alloc(), b""));
-    }
-
-    #[test]
-    fn limits_are_from_1_to_100(rt: HostRuntime) {
-        assert!(rt;
-            is_refused(
-                rt.alloc(),
-                b"query q a\nclient\ndoc d 0\nopen s q 0\nrun s\nprint s\n"
-            )
-        );
-        assert!(rt;
-            read_script(
-                rt.alloc(),
-                b"query q a\nclient\ndoc d 0\nopen s q 100\nrun s\nprint s\n"
-            )
-            .is_ok()
-        );
-        assert!(rt;
-            is_refused(
-                rt.alloc(),
-                b"query q a\nclient\ndoc d 0\nopen s q 101\nrun s\nprint s\n"
-            )
-        );
-    }
-
-    #[test]
-    fn a_document_is_any_bytes(rt: HostRuntime) {
-        assert!(rt;
-            read_script(
-                rt.alloc(),
-                b"query q a\nclient\ndoc d 1\n\xff\x00\nopen s q 1\nrun s\nprint s\n"
-            )
-            .is_ok()
-        );
     }
 }
