@@ -77,13 +77,6 @@ const NUMBER_DIGITS: usize = 9;
 /// The greatest limit of a session, in rounds.
 const MOST_ROUNDS: u32 = 100;
 
-/// Whether the bytes are those.
-fn equal(bytes: &[u8], others: &[u8]) -> bool
-    ensures { result ≡ bytes_eq bytes.now others.now }
-{
-    bytes == others
-}
-
 /// Whether it is an ASCII letter, a digit, `_`, `.` or `-`.
 fn is_name_byte(byte: u8) -> bool
     ensures { result ≡ is_name_byte byte }
@@ -146,7 +139,7 @@ fn query_line(line: &[u8]) -> Option<(&str, &str)>
     ensures { query_line line.now ≡ option_map head_shown result }
 {
     let (first, rest) = cut(line, b' ')?;
-    if !equal(first, b"query") {
+    if first != b"query".as_slice() {
         return None;
     }
     let (grammar, text) = cut(rest, b' ')?;
@@ -165,7 +158,7 @@ fn doc_line(line: &[u8]) -> Option<(&str, u32)>
     if let Some(_) = cut(count, b' ') {
         return None;
     }
-    if !equal(first, b"doc") || !is_name(document) {
+    if first != b"doc".as_slice() || !is_name(document) {
         return None;
     }
     let count = number(count)?;
@@ -182,7 +175,7 @@ fn open_line<'a>(grammar: &str, line: &'a [u8]) -> Option<(&'a str, u32)>
     if let Some(_) = cut(limit, b' ') {
         return None;
     }
-    if !equal(first, b"open") || !is_name(session) || !equal(named, grammar.as_bytes()) {
+    if first != b"open".as_slice() || !is_name(session) || named != grammar.as_bytes() {
         return None;
     }
     let limit = number(limit)?;
@@ -197,7 +190,7 @@ fn is_command(command: &[u8], session: &str, line: &[u8]) -> bool
     ensures { result ≡ bytes_eq line.now (command.now ++ session.now) }
 {
     match line.strip_prefix(command) {
-        Some(rest) => equal(rest, session.as_bytes()),
+        Some(rest) => rest == session.as_bytes(),
         None => false,
     }
 }
@@ -246,7 +239,7 @@ fn pieces_of(bytes: &[u8]) -> Option<Pieces<'_>>
     let (client, rest) = cut(rest, b'\n')?;
     let (doc, rest) = cut(rest, b'\n')?;
     let (grammar, query) = query_line(query)?;
-    if !equal(client, b"client") {
+    if client != b"client".as_slice() {
         return None;
     }
     let (document, count) = doc_line(doc)?;
