@@ -1,19 +1,13 @@
 -- Lemmas on bytes that are read and written piece by piece.
-use Rattle.std.proofs.Common.{◌≡◌, ℕ, ◌+◌, ◌-◌, ◌<◌, ◌≤◌, List, [], ◌∷◌, ◌++◌, Option, length, take, drop, get_or, min, refl, inl, inr, sym, ap, ◌∙◌, subst, arith, length-append, length-drop, append-nil, append_assoc}
+use Rattle.std.proofs.Common.{◌≡◌, ℕ, ◌+◌, ◌-◌, ◌<◌, ◌≤◌, List, [], ◌++◌, Option, length, take, drop, get_or, min, refl, inl, inr, sym, ap, ◌∙◌, subst, arith, length-append, length-drop}
 use Rattle.std.proofs.Math.Seq.{take-add, take-append-add, take-take, length-take-le, take_at, drop-drop}
-use Rattle.std.proofs.lemmas.List.{take-append-drop, take-append-le, take_rest, take_more, get_or_default, drop_all}
-use Rattle.std.proofs.lemmas.List.Folds.{concat-append}
-use Rattle.std.specs.List.{concat}
+use Rattle.std.proofs.lemmas.List.{take-append-drop, take-append-le, take_rest, get_or_default, drop_all}
 use Rattle.std.proofs.KnownBytes.{Appends-trans, Consumes-trans}
 use Rattle.std.specs.Io.KnownBytes.{Appends, Consumes}
-use Rattle.od_io.specs.Streams.Count.{Rose}
-use Rattle.od_io.specs.Streams.Writing.{AppendsProperPrefix}
-use Rattle.od_io.specs.Streams.Reading.{ConsumesMoreWhere}
 use Rattle.std.specs.Prelude.{◌↔◌, IsTrue, false, is_ok, Contains, MatchResult, Result, Ok, Err}
 use Rattle.std.specs.Ordering.{nat_cmp}
 use Rattle.std.specs.List.Sorted.{IsBinarySearchResult, IsNonDecreasing}
 use Rattle.std.proofs.lemmas.List.Sorted.{searched}
-use Rattle.od_io.specs.declared.whole.ReadAll.TheVariants as ReadAll
 use Rattle.std.proofs.lemmas.Bool.{cases_lt}
 use borrow.Rule.Slice.PartMut.{put_mid, post_of}
 
