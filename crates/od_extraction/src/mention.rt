@@ -5,6 +5,9 @@ use od_text::list::List;
 use od_text::text::{Copied, NoMemory, Text, copy_option, same_option};
 use std::alloc::Global;
 
+/// What the mentions of a session may weigh together: each weighs one and the number of its parts.
+pub const SESSION_WEIGHT: u64 = 100_000;
+
 /// The tokens of a sentence from a start to an end that is not included, numbered from 0.
 #[derive(Clone, Copy, Debug, PartialEq, Eq)]
 pub struct Span {

@@ -1,19 +1,13 @@
 -- Lemmas on bytes that are read and written piece by piece.
-use Rattle.std.proofs.Common.{◌≡◌, ℕ, ◌+◌, ◌-◌, ◌<◌, ◌≤◌, List, [], ◌∷◌, ◌++◌, Option, length, take, drop, get_or, min, refl, inl, inr, sym, ap, ◌∙◌, subst, arith, length-append, length-drop, append-nil, append_assoc}
-use Rattle.std.proofs.Math.Seq.{take-add, take-append-add, length-take-le, take_at, drop-drop}
-use Rattle.std.proofs.lemmas.List.{take-append-drop, take-append-le, take_rest, take_more, get_or_default, drop_all}
-use Rattle.std.proofs.lemmas.List.Folds.{concat-append}
-use Rattle.std.specs.List.{concat}
+use Rattle.std.proofs.Common.{◌≡◌, ℕ, ◌+◌, ◌-◌, ◌<◌, ◌≤◌, List, [], ◌++◌, Option, length, take, drop, get_or, min, refl, inl, inr, sym, ap, ◌∙◌, subst, arith, length-append, length-drop}
+use Rattle.std.proofs.Math.Seq.{take-add, take-append-add, take-take, length-take-le, take_at, drop-drop}
+use Rattle.std.proofs.lemmas.List.{take-append-drop, take-append-le, take_rest, get_or_default, drop_all}
 use Rattle.std.proofs.KnownBytes.{Appends-trans, Consumes-trans}
 use Rattle.std.specs.Io.KnownBytes.{Appends, Consumes}
-use Rattle.od_io.specs.Streams.Count.{Rose}
-use Rattle.od_io.specs.Streams.Writing.{AppendsProperPrefix}
-use Rattle.od_io.specs.Streams.Reading.{ConsumesFewer, ConsumesMoreWhere}
 use Rattle.std.specs.Prelude.{◌↔◌, IsTrue, false, is_ok, Contains, MatchResult, Result, Ok, Err}
 use Rattle.std.specs.Ordering.{nat_cmp}
 use Rattle.std.specs.List.Sorted.{IsBinarySearchResult, IsNonDecreasing}
 use Rattle.std.proofs.lemmas.List.Sorted.{searched}
-use Rattle.od_io.specs.declared.whole.ReadAll.TheVariants as ReadAll
 use Rattle.std.proofs.lemmas.Bool.{cases_lt}
 use borrow.Rule.Slice.PartMut.{put_mid, post_of}
 
@@ -25,11 +19,19 @@ take-filled at n k into piece within fits =
     ∙ take-append-add (take at into) (piece ++ post_of at k into) n
     ∙ ap (λ l. take at into ++ l) (take-append-le n piece (post_of at k into) fits)
 
--- a read into the part of a buffer from `at` on goes on with what was taken before
-pub Consumes-filled : (a b c : Option (List ℕ)) (at n k : ℕ) (into piece : List ℕ) → at ≤ length into → n ≤ length piece
-    → Consumes a b (take at into) → Consumes b c (take n piece) → Consumes a c (take (at + n) (put_mid at k into piece))
-Consumes-filled a b c at n k into piece within fits before now =
-    subst (Consumes a c) (sym (take-filled at n k into piece within fits)) (Consumes-trans a b c _ _ before now)
+filled-within : (at n k : ℕ) (into piece : List ℕ) → at ≤ length into → n ≤ length piece → at + n ≤ length (put_mid at k into piece)
+filled-within at n k into piece within fits =
+    omega (arith, length-append (take at into) (piece ++ post_of at k into), length-append piece (post_of at k into), length-take-le at into within)
+
+-- a read into the part of a row from `at` on goes on with what was taken before
+pub Consumes-filled : (a b c : Option (List ℕ)) (at n k size : ℕ) (row piece rest : List ℕ) → at ≤ length row → n ≤ length piece → at + n ≤ size
+    → Consumes a b (take at row) → Consumes b c (take n piece) → Consumes a c (take (at + n) (take size (put_mid at k row piece ++ rest)))
+Consumes-filled a b c at n k size row piece rest within fits small before now =
+    let front : take (at + n) (take size (put_mid at k row piece ++ rest)) ≡ take at row ++ take n piece =
+    take-take (at + n) size (put_mid at k row piece ++ rest) small
+    ∙ take-append-le (at + n) (put_mid at k row piece) rest (filled-within at n k row piece within fits)
+    ∙ take-filled at n k row piece within fits in
+    subst (Consumes a c) (sym front) (Consumes-trans a b c _ _ before now)
 
 -- a write of what comes from `at` on goes on with what was written before
 pub Appends-more : (a b c : Option (List ℕ)) (at n : ℕ) (bytes : List ℕ)
@@ -38,65 +40,9 @@ Appends-more a b c at n bytes before now =
     subst (Appends a c) (sym (take-add at n bytes))
     (Appends-trans a b c _ _ before (subst (λ l. Appends b c (take n l)) (take_rest bytes at) now))
 
-pub filled-within : (at n k : ℕ) (into piece : List ℕ) → at ≤ length into → n ≤ length piece → at + n ≤ length (put_mid at k into piece)
-filled-within at n k into piece within fits =
-    omega (arith, length-append (take at into) (piece ++ post_of at k into), length-append piece (post_of at k into), length-take-le at into within)
-
 pub written-within : (at n : ℕ) (bytes : List ℕ) → at ≤ length bytes → n ≤ length (take (length bytes - at) (drop at bytes)) → at + n ≤ length bytes
 written-within at n bytes within fits =
     let rest = rw (take_rest bytes at) at fits in omega (arith, length-drop at bytes)
-
--- pieces and one more
-pub concat-snoc : (pieces : List (List ℕ)) (piece : List ℕ) → concat (pieces ++ piece ∷ []) ≡ concat pieces ++ piece
-concat-snoc pieces piece = concat-append pieces (piece ∷ []) ∙ ap (λ l. concat pieces ++ l) (append-nil piece)
-
-pub length-concat_snoc : (pieces : List (List ℕ)) (piece : List ℕ) → length (concat (pieces ++ piece ∷ [])) ≡ length (concat pieces) + length piece
-length-concat_snoc pieces piece = ap length (concat-snoc pieces piece) ∙ length-append (concat pieces) piece
-
-pub concat-take_more : (pieces : List (List ℕ)) (i : ℕ) (piece : List ℕ) → i < length pieces → piece ≡ get_or pieces i piece
-    → concat (take (i + 1) pieces) ≡ concat (take i pieces) ++ piece
-concat-take_more pieces i piece h at =
-    ap concat (take_more pieces i piece h) ∙ concat-snoc (take i pieces) (get_or pieces i piece) ∙ ap (λ x. concat (take i pieces) ++ x) (sym at)
-
--- what the first pieces and the next one have together is no more than all have
-pub length-concat_take_more : (pieces : List (List ℕ)) (i : ℕ) (piece : List ℕ) → i < length pieces → piece ≡ get_or pieces i piece
-    → length (concat (take i pieces)) + length piece ≤ length (concat pieces)
-length-concat_take_more pieces i piece h at =
-    let parts = ap concat (sym (take-append-drop (i + 1) pieces)) ∙ concat-append (take (i + 1) pieces) (drop (i + 1) pieces) in
-    omega (
-      arith,
-      ap length parts,
-      length-append (concat (take (i + 1) pieces)) (concat (drop (i + 1) pieces)),
-      ap length (concat-take_more pieces i piece h at),
-      length-append (concat (take i pieces)) piece,
-    )
-
--- at most `most` bytes were read, and P does not hold
-pub read-within : (a b : Option (List ℕ)) (bytes : List ℕ) (most : ℕ) (P : Type 0) → Consumes a b bytes → length bytes ≤ most → (P → ⊥) → ConsumesMoreWhere most P a b
-read-within a b bytes most P taken few not = (bytes, taken, ((λ many. absurd (omega arith)), λ holds. absurd (not holds)))
-
--- more were read, and P holds
-pub read-beyond : (a b : Option (List ℕ)) (bytes : List ℕ) (most : ℕ) (P : Type 0) → Consumes a b bytes → most < length bytes → P → ConsumesMoreWhere most P a b
-read-beyond a b bytes most P taken many holds = (bytes, taken, ((λ _. holds), λ _. many))
-
--- a part of the last piece was read after the others
-pub read-part : (a b c : Option (List ℕ)) (bytes : List ℕ) (want most : ℕ) (P : Type 0) → Consumes a b bytes → ConsumesFewer want b c → length bytes + want ≤ most + 1 → (P → ⊥)
-    → ConsumesMoreWhere most P a c
-read-part a b c bytes want most P before part fits not =
-    read-within a c (bytes ++ part.0) most P (Consumes-trans a b c bytes part.0 before part.1) (omega (arith, length-append bytes part.0, part.2)) not
-
-pub read-piece_within : (a b c : Option (List ℕ)) (bytes piece : List ℕ) (most : ℕ) (P : Type 0) → Consumes a b bytes → Consumes b c piece → length bytes + length piece ≤ most → (P → ⊥)
-    → ConsumesMoreWhere most P a c
-read-piece_within a b c bytes piece most P before now few not =
-    read-within a c (bytes ++ piece) most P (Consumes-trans a b c bytes piece before now) (omega (arith, length-append bytes piece)) not
-
-pub read-piece_beyond : (a b c : Option (List ℕ)) (bytes piece : List ℕ) (most : ℕ) (P : Type 0) → Consumes a b bytes → Consumes b c piece → most < length bytes + length piece → P
-    → ConsumesMoreWhere most P a c
-read-piece_beyond a b c bytes piece most P before now many holds =
-    read-beyond a c (bytes ++ piece) most P (Consumes-trans a b c bytes piece before now) (omega (arith, length-append bytes piece)) holds
-
-pub memory-not_too_long : ReadAll.NoMemory ≡ ReadAll.TooLong → ⊥
-memory-not_too_long e = cc
 
 Contains-at : (xs : List ℕ) (x : ℕ) (r : Result ℕ ℕ)
     → MatchResult r (λ i. (i < length xs) × (get_or xs i 0 ≡ x)) (λ i. (i ≤ length xs) × ((k : ℕ) → k < i → get_or xs k 0 < x) × ((k : ℕ) → i ≤ k → k < length xs → x < get_or xs k 0))
@@ -138,18 +84,3 @@ Consumes-copied left bytes shown copied into at n is same from most =
     let rest : take (length shown - at) (drop at shown) ≡ drop at bytes = take_rest shown at ∙ ap (drop at) same in
     let on : drop n (drop at bytes) ≡ drop (at + n) bytes = drop-drop n at bytes in
     rw (is, ← on) (copied-front (drop at bytes) copied into n (from ∙ ap (take n) rest) (most ∙ ap (λ l. min (length l) (length into)) rest))
-
--- a count that rose after it did not fall
-pub Rose-later : (a b c : ℕ) → a ≤ b → Rose b c → Rose a c
-Rose-later a b c first (inl more) = inl (omega arith)
-Rose-later a b c first (inr last) = inr last
-
--- a count that rose and then did not fall
-pub Rose-kept : (a b c : ℕ) → a ≤ b → Rose a b → b ≤ c → Rose a c
-Rose-kept a b c later (inl more) after = inl (omega arith)
-Rose-kept a b c later (inr last) after = elim (cases_lt a c) [ inl more ↦ inl more | inr less ↦ inr (omega arith) ]
-
--- a write that was cut short after one that was whole
-pub AppendsProperPrefix-after : (a b c : Option (List ℕ)) (bytes more : List ℕ) → Appends a b bytes → AppendsProperPrefix b c more → AppendsProperPrefix a c (bytes ++ more)
-AppendsProperPrefix-after a b c bytes more first (front, rest, is, some, part) =
-    (bytes ++ front, rest, ap (λ l. bytes ++ l) is ∙ sym (append_assoc bytes front rest), some, Appends-trans a b c bytes front first part)

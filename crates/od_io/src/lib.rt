@@ -5,7 +5,6 @@
 mod count;
 mod memory_sink;
 mod memory_source;
-mod pieces;
 mod standard;
 mod streams;
 mod whole;

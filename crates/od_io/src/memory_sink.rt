@@ -1,7 +1,7 @@
 //! A sink in memory, which fails once it is full.
-ghost use Rattle.std.specs.Prelude.{◌≡◌, ◌-◌, ◌^◌, ◌<◌, ◌≤◌, ◌↔◌, [], min, length, Some, IfOk, OnErr, IsErr, MatchResult};
+ghost use Rattle.std.specs.Prelude.{◌≡◌, ◌-◌, ◌^◌, ◌<◌, ◌≤◌, ◌↔◌, [], min, length, Some, IfOk, OnErr, IsErr};
 ghost use Rattle.std.specs.Io.KnownBytes.{WriteAppends};
-ghost use Rattle.od_io.specs.Streams.Count.{Rose, count_up};
+ghost use Rattle.od_io.specs.Streams.Count.{Rose, CountsFault};
 
 use super::count::FaultCount;
 use super::streams::{Failed, Sink};
@@ -37,14 +37,11 @@ impl MemSink {
         ensures room { IfOk result (λ s. s.room ≡ room) }
         ensures faults { IfOk result (λ s. s.faults ≡ 0) }
     {
-        match Vec::with_capacity(alloc, room) {
-            Ok(taken) => Ok(MemSink {
-                taken,
-                room,
-                faults: FaultCount::new(),
-            }),
-            Err(_) => Err(NoMemory),
-        }
+        Ok(MemSink {
+            taken: Vec::with_capacity(alloc, room)?,
+            room,
+            faults: FaultCount::new(),
+        })
     }
 
     /// The bytes that were written.
@@ -73,16 +70,16 @@ impl Sink for MemSink {
         // A write fails once the sink is full, and only then. Before, it takes all that there is
         // room for.
         ensures full { IsErr result ↔ (length self.old.written ≡ self.old.room) }
-        ensures amount { IfOk result (λ n. n ≡ min (length piece.now) (self.old.room - length self.old.written)) }
+        ensures amount { IfOk result (λ n.
+            n ≡ min (length piece.now) (self.old.room - length self.old.written)) }
         ensures room { self.new.room ≡ self.old.room }
 
         // The count rises exactly where a write failed.
-        ensures faults { MatchResult result (λ _. self.new.faults ≡ self.old.faults) (λ _. self.new.faults ≡ count_up self.old.faults) }
+        ensures faults { CountsFault result self.old.faults self.new.faults }
     {
         let left = self.room - self.taken.len();
         if left == 0 {
-            self.faults.rise();
-            return Err(Failed);
+            return Err(self.faults.failed());
         }
         let n = piece.len().min(left);
         self.taken.extend_from_slice(&piece[..n]).unwrap();

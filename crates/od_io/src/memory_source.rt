@@ -1,8 +1,8 @@
 //! A source in memory, whose faults are chosen.
-ghost use Rattle.std.specs.Prelude.{◌≡◌, ℕ, ◌-◌, ◌^◌, ◌<◌, ◌≤◌, ◌↔◌, min, length, Contains, Some, IfOk, OnErr, IsErr, IsTrue, MatchResult};
+ghost use Rattle.std.specs.Prelude.{◌≡◌, ℕ, ◌-◌, ◌^◌, ◌<◌, ◌≤◌, ◌↔◌, min, length, Contains, Some, IfOk, OnErr, IsErr, IsTrue};
 ghost use Rattle.std.specs.Io.KnownBytes.{ReadConsumes};
 ghost use Rattle.std.specs.List.Sorted.{IsNonDecreasing};
-ghost use Rattle.od_io.specs.Streams.Count.{Rose, count_up};
+ghost use Rattle.od_io.specs.Streams.Count.{Rose, CountsFault, count_up};
 
 use super::count::FaultCount;
 use super::streams::{Failed, Source};
@@ -84,15 +84,14 @@ impl Source for MemSource {
         ensures amount { IfOk result (λ n. n ≡ min (length into.old) (length self.old.left)) }
 
         // The count rises exactly where a read failed.
-        ensures faults { MatchResult result (λ _. self.new.faults ≡ self.old.faults) (λ _. self.new.faults ≡ count_up self.old.faults) }
+        ensures faults { CountsFault result self.old.faults self.new.faults }
         ensures calls { self.new.calls ≡ count_up self.old.calls }
         ensures failing { self.new.failing ≡ self.old.failing }
     {
         let is_failing = is_listed(&self.failing, self.calls);
         self.calls = self.calls.saturating_add(1);
         if is_failing {
-            self.faults.rise();
-            return Err(Failed);
+            return Err(self.faults.failed());
         }
         let bytes = self.bytes.get();
         let rest = &bytes[self.at..];

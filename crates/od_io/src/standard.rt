@@ -33,10 +33,7 @@ impl Source for StdSource {
     fn read(&mut self, into: &mut [u8]) -> Result<usize, Failed> {
         match self.input.read(into) {
             Ok(n) => Ok(n),
-            Err(_) => {
-                self.faults.rise();
-                Err(Failed)
-            }
+            Err(_) => Err(self.faults.failed()),
         }
     }
 }
@@ -99,8 +96,7 @@ impl Sink for StdSink {
     fn write(&mut self, piece: &[u8]) -> Result<usize, Failed> {
         let taken = self.stream.write(piece);
         if taken == 0 {
-            self.faults.rise();
-            return Err(Failed);
+            return Err(self.faults.failed());
         }
         Ok(taken)
     }

@@ -1,11 +1,11 @@
 //! Reading a source to its end, and writing all of some bytes.
-ghost use Rattle.std.specs.Prelude.{◌≡◌, ◌⊎◌, ℕ, ◌+◌, ◌<◌, ◌≤◌, IfOk, OnOk, OnErr, IfErr, IfSome, IsErrOf, IsOkUnless, length, take};
+ghost use Rattle.std.specs.Prelude.{◌≡◌, ◌⊎◌, ◌+◌, ◌<◌, ◌≤◌, IfOk, OnOk, OnErr, IfErr, IfSome, IsErrOf, IsOkUnless, length, take, vec_len};
 ghost use Rattle.std.specs.Io.KnownBytes.{Appends, Consumes, IsAtEnd};
-ghost use Rattle.od_io.specs.Streams.Count.{Rose};
-ghost use Rattle.od_io.specs.Streams.Reading.{ConsumesFewer, ConsumesMoreWhere};
+ghost use Rattle.od_io.specs.Streams.Count.{Rose, Stayed};
+ghost use Rattle.od_io.specs.Streams.Reading.{ConsumesMoreWhere, IfAtMost, IfMore};
 ghost use Rattle.od_io.specs.Streams.Writing.{AppendsProperPrefix};
+ghost use Rattle.od_io.specs.declared.whole.ReadAll.TheVariants.{NoMemory as OutOfMemory, Failed as ReadFailed};
 
-use super::pieces::Pieces;
 use super::streams::{Failed, Sink, Source};
 use od_text::text::{Bytes, NoMemory};
 use std::alloc::Global;
@@ -19,6 +19,22 @@ pub enum ReadAll {
     TooLong,
     /// Memory was refused.
     NoMemory,
+}
+
+impl From<NoMemory> for ReadAll {
+    ghost from_gives = { λ _ cause. cause ≡ OutOfMemory };
+
+    fn from(_refused: NoMemory) -> ReadAll {
+        ReadAll::NoMemory
+    }
+}
+
+impl From<Failed> for ReadAll {
+    ghost from_gives = { λ _ cause. cause ≡ ReadFailed };
+
+    fn from(_failed: Failed) -> ReadAll {
+        ReadAll::Failed
+    }
 }
 
 /// How many bytes are asked for at once, at most.
@@ -39,82 +55,61 @@ pub fn write_whole<W: Sink>(sink: &mut W, bytes: &[u8]) -> Result<(), Failed>
     Ok(())
 }
 
-/// Fills `into` from the front as far as the source goes, and gives the number of bytes.
-fn fill<S: Source>(source: &mut S, into: &mut [u8]) -> Result<usize, Failed>
-    ensures fits { IfOk result (λ n. n ≤ length into.new) }
-    ensures bytes { IfOk result (λ n. Consumes (S.left source.old) (S.left source.new) (take n into.new)) }
-    ensures end { IfOk result (λ n. n < length into.new → IsAtEnd (S.left source.new)) }
-    ensures part { OnErr result (ConsumesFewer (length into.old) (S.left source.old) (S.left source.new)) }
-    ensures failed { OnErr result (Rose (S.faults source.old) (S.faults source.new)) }
-    ensures later { S.faults source.old ≤ S.faults source.new }
+/// Makes room for a read behind the first `filled` bytes, where there is none: zeros, at most
+/// `PIECE` of them, and up to one byte more than `most`, which shows that there are too many.
+///
+/// The memory grows by half of what it holds. The C library moves the pages of a large block that
+/// grows, so its bytes are not copied, and stand once.
+fn make_room(bytes: &mut Vec<u8>, filled: usize, most: usize) -> Result<(), NoMemory>
+    requires fits { filled ≤ vec_len bytes.old }
+    requires few { filled ≤ most }
+    requires most { vec_len bytes.old ≤ most + 1 }
+    ensures front { take filled bytes.new.items ≡ take filled bytes.old.items }
+    ensures fits { filled ≤ vec_len bytes.new }
+    ensures room { OnOk result (filled < vec_len bytes.new) }
+    ensures most { vec_len bytes.new ≤ most + 1 }
 {
-    let mut at = 0;
-    while at < into.len() {
-        let n = source.read(&mut into[at..])?;
-        if n == 0 {
-            return Ok(at);
-        }
-        at += n;
+    let len = bytes.len();
+    if filled < len {
+        return Ok(());
     }
-    Ok(at)
+    let left = most - len;
+    let more = left.saturating_add(1).min(PIECE);
+    if bytes.capacity() - len < more {
+        bytes.reserve_exact((len / 2).min(left).max(more))?;
+    }
+    bytes.resize(len + more, 0)?;
+    Ok(())
 }
 
-/// The next `want` bytes, or those up to the end where they are fewer.
-fn read_piece<S: Source>(alloc: Global, source: &mut S, want: usize) -> Result<Bytes, ReadAll>
-    requires { 0 < want }
-    ensures fits { IfOk result (λ piece. length piece ≤ want) }
-    ensures bytes { IfOk result (λ piece. Consumes (S.left source.old) (S.left source.new) piece) }
-    ensures end { IfOk result (λ piece. length piece < want → IsAtEnd (S.left source.new)) }
-    ensures part { OnErr result (ConsumesFewer want (S.left source.old) (S.left source.new)) }
-    ensures not_long { IsErrOf result ReadAll.TooLong → ⊥ }
-    ensures failed { IsErrOf result ReadAll.Failed → Rose (S.faults source.old) (S.faults source.new) }
-    ensures later { S.faults source.old ≤ S.faults source.new }
-{
-    let Ok(mut piece) = vec![in alloc; 0u8; want] else {
-        return Err(ReadAll::NoMemory);
-    };
-    match fill(source, piece.as_mut_slice()) {
-        Ok(filled) => {
-            piece.truncate(filled);
-            Ok(Bytes::from_vec(piece))
-        }
-        Err(Failed) => Err(ReadAll::Failed),
-    }
-}
-
-/// The bytes up to the end of the source, of which there are at most `most`, in pieces.
-fn read_pieces<S: Source>(alloc: Global, source: &mut S, most: usize) -> Result<Pieces, ReadAll>
-    ensures bytes { IfOk result (λ pieces. Consumes (S.left source.old) (S.left source.new) pieces) }
+/// The bytes up to the end of the source, of which there are at most `most`.
+fn read_up_to<S: Source>(alloc: Global, source: &mut S, most: usize) -> Result<Vec<u8>, ReadAll>
+    ensures bytes { IfOk result (λ bytes. Consumes (S.left source.old) (S.left source.new) bytes.items) }
     ensures end { OnOk result (IsAtEnd (S.left source.new)) }
-    ensures most { IfOk result (λ pieces. length pieces ≤ most) }
-    ensures over { IfErr result (λ cause. ConsumesMoreWhere most (cause ≡ ReadAll.TooLong) (S.left source.old) (S.left source.new)) }
+    ensures most { IfOk result (λ bytes. vec_len bytes ≤ most) }
+    ensures over { IfErr result (λ cause.
+        ConsumesMoreWhere most (cause ≡ ReadAll.TooLong) (S.left source.old) (S.left source.new)) }
     ensures failed { IsErrOf result ReadAll.Failed → Rose (S.faults source.old) (S.faults source.new) }
     ensures later { S.faults source.old ≤ S.faults source.new }
 {
-    let mut pieces = Pieces::new(alloc);
-    'turns: loop {
-        let room = most - pieces.len();
-        // One byte more than there is room for shows that there are too many.
-        let want = room.saturating_add(1).min(PIECE);
-        let piece = match read_piece(alloc, source, want) {
-            Ok(piece) => piece,
-            Err(cause) => return Err(cause),
-        };
-        let got = piece.get().len();
-        if got > room {
-            return Err(ReadAll::TooLong);
+    let mut bytes = Vec::new(alloc);
+    let mut filled = 0;
+    while filled <= most {
+        make_room(&mut bytes, filled, most)?;
+        let got = source.read(&mut bytes[filled..])?;
+        if got == 0 {
+            bytes.truncate(filled);
+            return Ok(bytes);
         }
-        let Ok(()) = pieces.push(piece) else {
-            return Err(ReadAll::NoMemory);
-        };
-        if got < want {
-            return Ok(pieces);
-        }
+        filled += got;
     }
+    Err(ReadAll::TooLong)
 }
 
-/// All bytes that the source has, to its end, of which there are at most `most`. Each byte is
-/// copied at most twice, by the source and when the pieces are joined.
+/// All bytes that the source has, to its end, of which there are at most `most`.
+///
+/// They are read into one row, which grows by half of what it holds. So its memory is at most one
+/// and a half times the bytes, and 64 KiB, while it is read and after.
 pub fn read_all<S: Source>(alloc: Global, source: &mut S, most: usize) -> Result<Bytes, ReadAll>
     // All that the source had came, and it is at its end.
     ensures bytes { IfOk result (λ bytes. Consumes (S.left source.old) (S.left source.new) bytes) }
@@ -123,23 +118,22 @@ pub fn read_all<S: Source>(alloc: Global, source: &mut S, most: usize) -> Result
 
     // More than `most` bytes were read exactly at `TooLong`.
     ensures most { IfOk result (λ bytes. length bytes ≤ most) }
-    ensures over { IfErr result (λ cause. ConsumesMoreWhere most (cause ≡ ReadAll.TooLong) (S.left source.old) (S.left source.new)) }
-    ensures too_long { IsErrOf result ReadAll.TooLong → IfSome (S.left source.old) (λ known. most < length known) }
+    ensures over { IfErr result (λ cause.
+        ConsumesMoreWhere most (cause ≡ ReadAll.TooLong) (S.left source.old) (S.left source.new)) }
+    ensures too_long { IsErrOf result ReadAll.TooLong
+        → IfSome (S.left source.old) (λ known. most < length known) }
 
     // A read that failed raised the count. With no rise, what the source had decides.
     ensures failed { IsErrOf result ReadAll.Failed → Rose (S.faults source.old) (S.faults source.new) }
-    ensures short { (Rose (S.faults source.old) (S.faults source.new) → ⊥) → IfSome (S.left source.old) (λ known. length known ≤ most → IsOkUnless result ReadAll.NoMemory) }
-    ensures long { (Rose (S.faults source.old) (S.faults source.new) → ⊥) → IfSome (S.left source.old) (λ known. most < length known → IsErrOf result ReadAll.TooLong ⊎ IsErrOf result ReadAll.NoMemory) }
+    ensures short { Stayed (S.faults source.old) (S.faults source.new)
+        → IfAtMost most (S.left source.old) (IsOkUnless result ReadAll.NoMemory) }
+    ensures long { Stayed (S.faults source.old) (S.faults source.new)
+        → IfMore most (S.left source.old)
+        (IsErrOf result ReadAll.TooLong ⊎ IsErrOf result ReadAll.NoMemory) }
     ensures later { S.faults source.old ≤ S.faults source.new }
 {
-    let pieces = match read_pieces(alloc, source, most) {
-        Ok(pieces) => pieces,
-        Err(cause) => return Err(cause),
-    };
-    match pieces.join(alloc) {
-        Ok(bytes) => Ok(bytes),
-        Err(NoMemory) => Err(ReadAll::NoMemory),
-    }
+    let bytes = read_up_to(alloc, source, most)?;
+    Ok(Bytes::from_vec(bytes))
 }
 
 #[cfg(test)]

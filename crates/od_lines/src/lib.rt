@@ -3,4 +3,4 @@
 
 mod lines;
 
-pub use lines::{entry_line, mention_line, session_lines};
+pub use lines::{entry_line, session_lines};

@@ -1,5 +1,5 @@
-//! The output lines. Each is one JSON object on a line of its own: no space between its parts, its keys in the order of their
-//! bytes, and an LF at its end.
+//! The output lines. Each is one JSON object on a line of its own: no space between its parts, its
+//! keys in the order of their bytes, and an LF at its end.
 mod entry;
 mod members;
 mod mention;
@@ -8,4 +8,4 @@ mod refusal;
 mod words;
 
 pub use entry::entry_line;
-pub use mention::{mention_line, session_lines};
+pub use mention::session_lines;

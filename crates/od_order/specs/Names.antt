@@ -3,6 +3,7 @@ use Rattle.std.specs.Prelude.{ℕ, ◌+◌, ◌-◌, ◌*◌, List, [], ◌∷�
 use Rattle.std.specs.List.{list_all}
 use Rattle.od_command.specs.declared.history.Command.{Command}
 use Rattle.od_command.specs.declared.history.Command.TheVariants.{AddDoc, OpenSession, Step, Resume, Print, Release, Settle}
+use Rattle.od_order.specs.declared.script.TheConstants.{NAME_BYTES, NUMBER_DIGITS}
 use Rattle.od_language.specs.Query.{is_letter}
 
 abbrev pub is_digit : ℕ → Bool
@@ -12,9 +13,9 @@ is_digit b = nat_le 48 b && nat_le b 57
 abbrev pub is_name_byte : ℕ → Bool
 is_name_byte b = is_letter b || (is_digit b || (b == 95 || (b == 46 || b == 45)))
 
--- a name has 1 to 64 of these
+-- a name has 1 to 64 of these bytes
 abbrev pub is_name : List ℕ → Bool
-is_name text = nat_le 1 (length text) && (nat_le (length text) 64 && list_all is_name_byte text)
+is_name text = nat_le 1 (length text) && (nat_le (length text) NAME_BYTES && list_all is_name_byte text)
 
 -- the number that digits go on from n
 abbrev pub digits_from : ℕ → List ℕ → Option ℕ
@@ -24,7 +25,7 @@ digits_from n (b ∷ text) = if is_digit b then digits_from (n * 10 + (b - 48)) 
 -- a number is `0`, or up to 9 digits without a leading zero
 abbrev pub script_number : List ℕ → Option ℕ
 script_number text =
-    if length text == 0 || nat_lt 9 (length text) then None
+    if length text == 0 || nat_lt NUMBER_DIGITS (length text) then None
     else (if slice_index text 0 == 48 && nat_lt 1 (length text) then None
     else digits_from 0 text)
 

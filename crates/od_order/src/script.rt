@@ -7,6 +7,12 @@ use od_text::text::Text;
 /// The most bytes that a script may have: 64 MiB.
 pub const SCRIPT_BYTES: usize = 67_108_864;
 
+/// The most bytes of a name.
+pub const NAME_BYTES: usize = 64;
+
+/// The most digits of a number.
+pub const NUMBER_DIGITS: usize = 9;
+
 /// The most clients that a script may have.
 pub const CLIENTS: usize = 8;
 

@@ -64,10 +64,8 @@ pub fn is_word_query(text: &[u8]) -> bool
 fn norm(alloc: Global, word: &str) -> Result<Text, NoMemory>
     ensures { IfOk result (λ norm. norm ≡ fold_text word.now) }
 {
-    match default_case_fold_str(alloc, word) {
-        Ok(folded) => Ok(Text::from_string(folded)),
-        Err(_) => Err(NoMemory),
-    }
+    let folded = default_case_fold_str(alloc, word)?;
+    Ok(Text::from_string(folded))
 }
 
 /// The text before the first space and that behind it, where there is one.
@@ -83,7 +81,7 @@ pub fn query_words(alloc: Global, text: &str) -> Result<List<Text>, NoMemory>
 {
     let mut norms = List::new(alloc);
     let mut rest = text;
-    'words: while let Some((word, more)) = first_word(rest) {
+    while let Some((word, more)) = first_word(rest) {
         norms.push(norm(alloc, word)?)?;
         rest = more;
     }

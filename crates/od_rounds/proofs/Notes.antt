@@ -14,7 +14,7 @@ use Rattle.od_extraction.proofs.Distinct.{is_among-append}
 use Rattle.od_rounds.specs.declared.known.Place.{Place}
 use Rattle.od_rounds.specs.declared.known.Known.{Known}
 use Rattle.od_rounds.specs.Hashes.{mention_hash}
-use Rattle.od_rounds.specs.Known.{noted, mention_at, is_same, has_at, same_place, is_noted, IsComplete}
+use Rattle.od_rounds.specs.Known.{noted, mention_at, is_same, has_at, same_place, is_noted, IsComplete, NotesOne}
 
 -- the place of this round and index
 abbrev pub place : ℕ → ℕ → Place
@@ -114,17 +114,6 @@ found_by_notes known rounds m c =
 
 -- ## Notes of one round more
 
--- no mention stands in an empty round
-at_empty : (rounds : List (List Mention)) (r i : ℕ) (m : Mention) → mention_at (rounds ++ [] ∷ []) (place r i) ≡ Some m → mention_at rounds (place r i) ≡ Some m
-at_empty [] zero i m e = e
-at_empty [] (suc r) i m e = e
-at_empty (l ∷ ls) zero i m e = e
-at_empty (l ∷ ls) (suc r) i m e = at_empty ls r i m e
-
--- a round that added nothing has nothing to note
-pub complete_empty : (known : Known) (rounds : List (List Mention)) → IsComplete known rounds → IsComplete known (rounds ++ [] ∷ [])
-complete_empty known rounds c = record { notes = λ p m e. c.notes p m (at_empty rounds p.round p.index m e) }
-
 -- what stands in a list with one mention more stood there before, or is that mention
 in_more : (taken : List Mention) (m n : Mention) (i : ℕ) → slice_get (taken ++ m ∷ []) i ≡ Some n → (slice_get taken i ≡ Some n) ⊎ ((i ≡ length taken) × (m ≡ n))
 in_more [] m n zero e = inr (refl, cc)
@@ -152,46 +141,38 @@ at_more (l ∷ ls) taken m n (suc r) i e =
       | inr new ↦ inr (ap suc new.0, new.1, new.2)
     ]
 
--- the notes have one place more under the mention's hash, and else stay as they were
-abbrev pub NotesOne : Known → Known → Mention → Place → Type 0
-NotesOne before after m p = (hash : ℕ) → noted after hash ≡ cond (nat_eq (mention_hash m) hash) (noted before hash ++ p ∷ []) (noted before hash)
-
 -- a place that was there stays there
 kept_under : (b : Bool) (xs : List Place) (p q : Place) → list_any (same_place q) xs ≡ true → list_any (same_place q) (cond b (xs ++ p ∷ []) xs) ≡ true
 kept_under true xs p q h = list_any-append (same_place q) xs (p ∷ []) ∙ or_left (list_any (same_place q) xs) (list_any (same_place q) (p ∷ [])) h
 kept_under false xs p q h = h
 
 -- no note is lost
-kept_note : (before after : Known) (m : Mention) (p : Place) → NotesOne before after m p → (hash : ℕ) (q : Place) → is_noted before hash q ≡ true → is_noted after hash q ≡ true
-kept_note before after m p says hash q h = ap (list_any (same_place q)) (says hash) ∙ kept_under (nat_eq (mention_hash m) hash) (noted before hash) p q h
+kept_note : (before after : Known) (new : ℕ) (p : Place) → NotesOne before after new p → (hash : ℕ) (q : Place) → is_noted before hash q ≡ true → is_noted after hash q ≡ true
+kept_note before after new p says hash q h = ap (list_any (same_place q)) (says hash) ∙ kept_under (nat_eq new hash) (noted before hash) p q h
 
 -- the new place is noted
-new_note : (before after : Known) (m : Mention) (p : Place) → NotesOne before after m p → is_noted after (mention_hash m) p ≡ true
-new_note before after m p says =
-    let h = mention_hash m in
+new_note : (before after : Known) (h : ℕ) (p : Place) → NotesOne before after h p → is_noted after h p ≡ true
+new_note before after h p says =
     let e : noted after h ≡ noted before h ++ p ∷ [] = says h ∙ ap (λ b. cond b (noted before h ++ p ∷ []) (noted before h)) (eq-eqb h h refl) in
     ap (list_any (same_place p)) e
     ∙ list_any-append (same_place p) (noted before h) (p ∷ [])
     ∙ or_right (list_any (same_place p) (noted before h)) (list_any (same_place p) (p ∷ [])) (or_left (same_place p p) false (same_itself p))
 
 -- no mention loses its note
-pub complete_kept : (before after : Known) (m : Mention) (p : Place) (rounds : List (List Mention)) → NotesOne before after m p → IsComplete before rounds → IsComplete after rounds
-complete_kept before after m p rounds says c = record { notes = λ q n e. kept_note before after m p says (mention_hash n) q (c.notes q n e) }
-
--- where nothing is noted, all stays complete
-pub complete_same : (before after : Known) (rounds : List (List Mention)) → ((hash : ℕ) → noted after hash ≡ noted before hash) → IsComplete before rounds → IsComplete after rounds
-complete_same before after rounds says c = record { notes = λ q n e. ap (list_any (same_place q)) (says (mention_hash n)) ∙ c.notes q n e }
+pub complete_kept : (before after : Known) (hash : ℕ) (p : Place) (rounds : List (List Mention)) → NotesOne before after hash p → IsComplete before rounds → IsComplete after rounds
+complete_kept before after hash p rounds says c = record { notes = λ q n e. kept_note before after hash p says (mention_hash n) q (c.notes q n e) }
 
 -- the last round has one mention more, and its place is noted
-pub complete_more : (before after : Known) (rounds : List (List Mention)) (taken : List Mention) (m : Mention) (p : Place)
-    → p ≡ record { round = length rounds; index = length taken } → NotesOne before after m p
+pub complete_more : (before after : Known) (rounds : List (List Mention)) (taken : List Mention) (m : Mention) (hash : ℕ) (p : Place)
+    → hash ≡ mention_hash m → p ≡ record { round = length rounds; index = length taken } → NotesOne before after hash p
     → IsComplete before (rounds ++ taken ∷ []) → IsComplete after (rounds ++ (taken ++ m ∷ []) ∷ [])
-complete_more before after rounds taken m p is says c = record {
+complete_more before after rounds taken m hash p hashes is says c = record {
   notes = λ q n e.
       elim (at_more rounds taken m n q.round q.index e) [
-        | inl old ↦ kept_note before after m p says (mention_hash n) q (c.notes q n old)
+        | inl old ↦ kept_note before after hash p says (mention_hash n) q (c.notes q n old)
         | inr new ↦
             let same : p ≡ q = is ∙ sym (ap₂ place new.0 new.1) in
-            subst (λ x. is_noted after (mention_hash x) q ≡ true) new.2 (subst (λ x. is_noted after (mention_hash m) x ≡ true) same (new_note before after m p says))
+            let whose : hash ≡ mention_hash n = hashes ∙ ap mention_hash new.2 in
+            subst (λ h. is_noted after h q ≡ true) whose (subst (λ x. is_noted after hash x ≡ true) same (new_note before after hash p says))
       ];
 }

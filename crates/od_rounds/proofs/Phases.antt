@@ -1,20 +1,15 @@
 -- The phase of a session that runs a query of plain words.
-use Rattle.std.proofs.Common.{◌≡◌, ℕ, zero, suc, ◌+◌, ◌-◌, List, [], ◌∷◌, ◌++◌, length, fold, get_or, Some, None, Bool, false, ◌&&◌, refl, sym, ap, ap₂, ◌∙◌, arith}
-use Rattle.std.specs.Prelude.{◌==◌, nat_le, if◌then◌else◌, slice_get}
+use Rattle.std.proofs.Common.{◌≡◌, ℕ, zero, suc, ◌+◌, ◌-◌, List, [], ◌∷◌, ◌++◌, length, fold, get_or, Some, None, Bool, false, refl, sym, ap, ap₂, ◌∙◌, arith}
+use Rattle.std.specs.Prelude.{◌==◌, slice_get}
 use Rattle.std.proofs.lemmas.List.{nil_from_length}
 use Rattle.std.proofs.lemmas.List.Sums.{fold_push}
 use Rattle.std.proofs.lemmas.Option.{slice_get-get_or}
 use Rattle.od_extraction.specs.declared.mention.Mention.{Mention}
-use Rattle.od_extraction.specs.declared.phase.Phase.{Phase}
-use Rattle.od_extraction.specs.declared.phase.Phase.TheVariants.{Going, Finished, AtLimit}
 use Rattle.od_session.specs.declared.object.SessionState.{SessionState}
 use Rattle.od_matching.specs.Rounds.Phases.{phase, ends_empty}
 use Rattle.od_session.specs.Parts.{phase_with}
+use Rattle.od_rounds.specs.Phases.{phase_by}
 use Rattle.od_session.proofs.Queries.{RunsQuery, phase_with-query}
-
--- the phase by whether the last of so many lists is empty
-abbrev pub phase_by : Bool → ℕ → ℕ → Phase
-phase_by last count limit = if last && nat_le 1 count then Finished else (if count == limit then AtLimit else Going)
 
 -- it is the phase of rules that begin in round 1
 phase_is : (limit : ℕ) (lists : List (List Mention)) → phase_by (ends_empty lists) (length lists) limit ≡ phase 1 limit lists

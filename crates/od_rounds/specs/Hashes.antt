@@ -24,6 +24,10 @@ part_hash hash part = mixed (mixed (label_hash (text_hash hash part.name) part.l
 abbrev pub first_hash : ℕ
 first_hash = 0xcbf29ce484222325
 
+-- the hash of where a mention stands
+abbrev pub site_hash : ℕ → ℕ → ℕ → ℕ → ℕ
+site_hash document sentence start end = mixed (mixed (mixed (mixed first_hash document) sentence) start) end
+
 -- the hash of all that a mention has
 unfoldable pub mention_hash : Mention → ℕ
-mention_hash m = fold part_hash (text_hash (text_hash (mixed (mixed (mixed (mixed first_hash m.document) m.sentence) m.start) m.end) m.label) m.rule) m.parts
+mention_hash m = fold part_hash (text_hash (text_hash (site_hash m.document m.sentence m.start m.end) m.label) m.rule) m.parts

@@ -1,5 +1,5 @@
 -- Notes of where the mentions of a session's rounds stand.
-use Rattle.std.specs.Prelude.{◌≡◌, ℕ, ◌==◌, Bool, true, false, ◌&&◌, List, [], Option, Some, None, unwrap_or, nat_eq, slice_get, slice_index_or}
+use Rattle.std.specs.Prelude.{◌≡◌, ℕ, ◌==◌, Bool, true, false, ◌&&◌, if◌then◌else◌, List, [], ◌∷◌, ◌++◌, Option, Some, None, unwrap_or, nat_eq, slice_get, slice_index_or}
 use Rattle.std.specs.HashMap.{get}
 use Rattle.std.specs.List.{list_any}
 use Rattle.od_extraction.specs.declared.mention.Mention.{Mention}
@@ -36,3 +36,12 @@ is_noted known hash place = list_any (same_place place) (noted known hash)
 -- each mention of the rounds is noted
 pub record IsComplete (known : Known) (rounds : List (List Mention)) : Type 0 where
   pub notes : (place : Place) (m : Mention) → mention_at rounds place ≡ Some m → is_noted known (mention_hash m) place ≡ true
+
+-- the notes have one place more under the hash, and else stay as they were
+abbrev pub NotesOne : Known → Known → ℕ → Place → Type 0
+NotesOne before after hash place =
+    (other : ℕ) → noted after other ≡ (if nat_eq hash other then noted before other ++ place ∷ [] else noted before other)
+
+-- the notes stay as they were
+abbrev pub NotesSame : Known → Known → Type 0
+NotesSame before after = (hash : ℕ) → noted after hash ≡ noted before hash

@@ -1,5 +1,7 @@
 -- The definitions of this crate.
+pub mod Candidates
 pub mod Hashes
 pub mod Known
+pub mod Phases
 pub mod Queries
 pub mod Walks

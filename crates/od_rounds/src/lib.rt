@@ -1,6 +1,8 @@
 //! Rounds of a session.
 #![tactic(auto)]
 
+mod candidate;
+mod hashes;
 pub mod known;
 pub mod round;
 mod scan;

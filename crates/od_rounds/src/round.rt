@@ -1,22 +1,20 @@
-//! A session's next round, over documents whose sentences are all scanned, and whether its rounds go on.
-ghost use Rattle.std.specs.Prelude.{◌≡◌, ◌∷◌, [], ◌++◌, ◌+◌, ◌<◌, ◌≤◌, ◌^◌, map, flat_map, fold, length, Some, IfOk, if◌then◌else◌, ◌==◌, ◌&&◌, nat_le};
-ghost use Rattle.od_extraction.specs.declared.mention.RoundResult.TheVariants.{Found};
-ghost use Rattle.od_extraction.specs.declared.phase.Phase.TheVariants.{Going, Finished, AtLimit};
+//! A session's next round, over documents whose sentences are all scanned, and whether its rounds
+//! go on.
+ghost use Rattle.std.specs.Prelude.{◌≡◌, ◌∷◌, [], ◌++◌, ◌<◌, ◌≤◌, ◌^◌, map, length, Some, IfOk};
 ghost use Rattle.od_text.specs.Folding.{fold_text};
 ghost use Rattle.od_language.specs.Query.{words_of, query_grammar, grammar_of};
 ghost use Rattle.od_extraction.specs.Mentions.{distinct};
 ghost use Rattle.od_extraction.specs.Weight.{weight, most_weight};
-ghost use Rattle.od_matching.specs.Rounds.Sites.{sites, sites_of};
-ghost use Rattle.od_matching.specs.Rounds.Round.{walked};
 ghost use Rattle.od_extraction.specs.Joined.{joined};
 ghost use Rattle.od_matching.specs.Rounds.Phases.{ends_empty};
 ghost use Rattle.od_session.specs.Parts.{phase_with, round_at};
 ghost use Rattle.od_rounds.specs.Known.{IsComplete};
-ghost use Rattle.od_rounds.specs.Queries.{words_items};
-ghost use Rattle.od_rounds.specs.Walks.{result_of, IsWeighed};
+ghost use Rattle.od_rounds.specs.Phases.{phase_by};
+ghost use Rattle.od_rounds.specs.Queries.{document_items, all_items};
+ghost use Rattle.od_rounds.specs.Walks.{IsWeighed, LeadsTo};
 
 use crate::known::Known;
-use crate::scan::mentions_of;
+use crate::scan::candidates_of;
 use crate::walk::{Earlier, Walk};
 use od_document::doc::Doc;
 use od_extraction::mention::{Mention, RoundResult};
@@ -26,7 +24,7 @@ use od_text::list::List;
 use od_text::text::{NoMemory, Text};
 use std::alloc::Global;
 
-/// Meets the mentions of a document's sentences. Gives the weight that is too great, if one is.
+/// Meets what a document's sentences give. Gives the weight that is too great, if one is.
 fn visit_document(
     alloc: Global,
     words: &[Text],
@@ -38,19 +36,21 @@ fn visit_document(
     requires some { 0 < length words.now }
     requires weighed { IsWeighed (joined earlier.now.rounds.now) walk.old.found walk.old.total }
     ensures weighed { IsWeighed (joined earlier.now.rounds.now) walk.new.found walk.new.total }
-    ensures met { let old = joined earlier.now.rounds.now in
-        IfOk result (λ heavy. fold (walked old) (Found walk.old.found) (flat_map (words_items words.now old) (sites_of (document, doc.now))) ≡ result_of heavy walk.new.found) }
+    ensures met { IfOk result (λ heavy.
+        LeadsTo (joined earlier.now.rounds.now)
+        (document_items words.now (joined earlier.now.rounds.now) (document, doc.now))
+        walk.old.found heavy walk.new.found) }
 {
     for (number, sentence) in doc.sentences.get().iter().enumerate() {
-        let found = mentions_of(alloc, words, document, number as u32, sentence)?;
-        if let Some(total) = walk.meet_all(alloc, earlier, found)? {
+        let found = candidates_of(alloc, words, document, number as u32, sentence)?;
+        if let Some(total) = walk.meet_all(alloc, earlier, found.as_slice())? {
             return Ok(Some(total));
         }
     }
     Ok(None)
 }
 
-/// Meets the mentions of all documents in their order. Gives the weight that is too great, if one is.
+/// Meets what all documents give, in their order. Gives the weight that is too great, if one is.
 fn visit_documents(
     alloc: Global,
     words: &[Text],
@@ -61,8 +61,10 @@ fn visit_documents(
     requires some { 0 < length words.now }
     requires few { length docs.now < 2 ^ 32 }
     requires weighed { IsWeighed (joined earlier.now.rounds.now) walk.old.found walk.old.total }
-    ensures met { let old = joined earlier.now.rounds.now in
-        IfOk result (λ heavy. fold (walked old) (Found walk.old.found) (flat_map (words_items words.now old) (sites docs.now)) ≡ result_of heavy walk.new.found) }
+    ensures met { IfOk result (λ heavy.
+        LeadsTo (joined earlier.now.rounds.now)
+        (all_items words.now (joined earlier.now.rounds.now) docs.now)
+        walk.old.found heavy walk.new.found) }
 {
     for (document, doc) in docs.iter().enumerate() {
         if let Some(total) = visit_document(alloc, words, earlier, walk, document as u32, doc)? {
@@ -72,8 +74,9 @@ fn visit_documents(
     Ok(None)
 }
 
-/// What the next round of a session gives that runs a query of plain words, over the documents that were committed when it was opened.
-/// Its words are folded, its mentions are noted, and they weigh so much in total.
+/// What the next round of a session gives that runs a query of plain words, over the documents
+/// that were committed when it was opened. Its words are folded, its mentions are noted, and they
+/// weigh so much in total.
 pub fn next_round(
     alloc: Global,
     docs: &[Doc],
@@ -114,9 +117,10 @@ pub fn weigh(mentions: &[Mention]) -> u64
     total
 }
 
-/// Whether rounds go on whose rules all begin in round 1: by whether the last of them added nothing, their number, and the limit.
+/// Whether rounds go on whose rules all begin in round 1: by whether the last of them added
+/// nothing, their number, and the limit.
 fn phase_from(quiet: bool, rounds: usize, limit: u32) -> Phase
-    ensures { result ≡ (if quiet && nat_le 1 rounds then Finished else (if rounds == limit then AtLimit else Going)) }
+    ensures { result ≡ phase_by quiet rounds limit }
 {
     if quiet && rounds >= 1 {
         Phase::Finished

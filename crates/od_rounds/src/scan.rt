@@ -1,15 +1,12 @@
 //! Where the words of a query stand in a sentence.
-ghost use Rattle.std.specs.Prelude.{◌≡◌, ◌+◌, ◌<◌, ◌≤◌, length, List as Seq, IfOk, IsTrue};
-ghost use Rattle.od_extraction.specs.declared.mention.Mention.{Mention as Found};
+ghost use Rattle.std.specs.Prelude.{◌≡◌, ◌<◌, ◌≤◌, length, map, IfOk, IsTrue};
 ghost use Rattle.od_matching.specs.Matching.Words.{begins_with};
-ghost use Rattle.od_matching.specs.Matching.Rules.{mentions, rule_mentions};
-ghost use Rattle.od_language.specs.Query.{words_rule};
-ghost use Rattle.od_rounds.specs.Queries.{query_mention};
+ghost use Rattle.od_rounds.specs.Candidates.{mention_of};
+ghost use Rattle.od_rounds.specs.Queries.{IsFoundBy};
 
+use crate::candidate::Candidate;
 use od_document::sentence::Sentence;
 use od_document::token::Token;
-use od_extraction::mention::Mention;
-use od_text::list::List;
 use od_text::text::{NoMemory, Text};
 use std::alloc::Global;
 
@@ -27,37 +24,18 @@ fn begin_with(words: &[Text], tokens: &[Token]) -> bool
     }
 }
 
-/// The mention that a query makes of the tokens from the start to before the end, numbered from 0.
-fn make_mention(
-    alloc: Global,
-    document: u32,
-    sentence: u32,
-    start: u32,
-    end: u32,
-) -> Result<Mention, NoMemory>
-    ensures { IfOk result (λ m. m ≡ query_mention document sentence start end) }
-{
-    Ok(Mention {
-        document,
-        sentence,
-        start,
-        end,
-        label: Text::from_str(alloc, "Query")?,
-        rule: Text::from_str(alloc, "query")?,
-        parts: List::new(alloc),
-    })
-}
-
-/// The mentions of a query of these folded words on a sentence, numbered from 0 within its document. The search goes on behind each of them.
-pub fn mentions_of(
+/// What a query of these folded words finds in a sentence, numbered from 0 within its document.
+/// The search goes on behind each match.
+pub fn candidates_of(
     alloc: Global,
     words: &[Text],
     document: u32,
     number: u32,
     sentence: &Sentence,
-) -> Result<Vec<Mention>, NoMemory>
+) -> Result<Vec<Candidate>, NoMemory>
     requires { 0 < length words.now }
-    ensures { IfOk result (λ found. (state : Seq Found) → rule_mentions (words_rule words.now) document number sentence.now state ≡ mentions found.items) }
+    ensures { IfOk result (λ found.
+        IsFoundBy words.now document number sentence.now (map mention_of found.items)) }
 {
     let tokens = sentence.tokens.get();
     let mut found = Vec::new(alloc);
@@ -65,11 +43,12 @@ pub fn mentions_of(
     while i < tokens.len() {
         if begin_with(words, &tokens[i..]) {
             let end = i + words.len();
-            let mention = make_mention(alloc, document, number, i as u32, end as u32)?;
-            match found.push(mention) {
-                Ok(()) => {}
-                Err(_) => return Err(NoMemory),
-            }
+            found.push(Candidate {
+                document,
+                sentence: number,
+                start: i as u32,
+                end: end as u32,
+            })?;
             i = end;
         } else {
             i += 1;
@@ -81,6 +60,7 @@ pub fn mentions_of(
 #[cfg(test)]
 mod tests {
     use super::*;
+    use od_text::list::List;
     use std::test::Fail;
 
     fn token(alloc: Global, word: &str, norm: &str) -> Result<Token, NoMemory> {
@@ -105,7 +85,8 @@ mod tests {
         })
     }
 
-    /// Of `Ha ha ha oh HA ha` two mentions of `ha ha` are found, neither of which shares a token with the other.
+    /// Of `Ha ha ha oh HA ha` two matches of `ha ha` are found, neither of which shares a token
+    /// with the other.
     #[test]
     fn finds_words_by_norm_one_match_behind_another(rt: HostRuntime) -> Result<(), Fail> {
         let alloc = rt.alloc();
@@ -122,14 +103,13 @@ mod tests {
         }
         let sentence = sentence_of(tokens, alloc).ok_or("no sentence")?;
         let words = [Text::from_str(alloc, "ha")?, Text::from_str(alloc, "ha")?];
-        let found = mentions_of(alloc, &words, 3, 7, &sentence)?;
+        let found = candidates_of(alloc, &words, 3, 7, &sentence)?;
         let [first, second] = found.as_slice() else {
-            panic!(rt; "two mentions");
+            panic!(rt; "two matches");
         };
         assert_eq!(rt; (first.start, first.end), (0, 2));
         assert_eq!(rt; (second.start, second.end), (4, 6));
         assert_eq!(rt; (second.document, second.sentence), (3, 7));
-        assert_eq!(rt; (second.label.get(), second.rule.get()), ("Query", "query"));
         Ok(())
     }
 }

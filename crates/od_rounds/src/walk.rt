@@ -1,21 +1,22 @@
 //! The walk of a round over the mentions that it meets.
-ghost use Rattle.std.specs.Prelude.{◌≡◌, ◌∷◌, [], ◌++◌, ◌||◌, map, fold, length, ◌<◌, ◌^◌, IfOk, OnOk, OnErr};
-ghost use Rattle.od_extraction.specs.declared.mention.RoundResult.TheVariants.{Found};
-ghost use Rattle.od_extraction.specs.Mentions.{is_among};
-ghost use Rattle.od_matching.specs.Rounds.Round.{walked, one};
+ghost use Rattle.std.specs.Prelude.{◌≡◌, ◌∷◌, [], ◌++◌, length, ◌<◌, ◌^◌, IfOk, OnOk, OnErr};
 ghost use Rattle.od_extraction.specs.Joined.{joined};
+ghost use Rattle.od_extraction.specs.Mentions.{is_among};
+ghost use Rattle.od_matching.specs.Rounds.Round.{one};
+ghost use Rattle.od_rounds.specs.Candidates.{mention_of};
+ghost use Rattle.od_rounds.specs.Hashes.{mention_hash};
 ghost use Rattle.od_rounds.specs.Known.{IsComplete};
-ghost use Rattle.od_rounds.specs.Walks.{result_of, IsWeighed};
+ghost use Rattle.od_rounds.specs.Queries.{candidate_items};
+ghost use Rattle.od_rounds.specs.Walks.{IsWeighed, LeadsTo};
 
+use crate::candidate::Candidate;
+use crate::hashes::hash_candidate;
 use crate::known::{Known, Place};
-use od_extraction::mention::Mention;
+use od_extraction::mention::{Mention, SESSION_WEIGHT};
 use od_text::list::List;
 use od_text::text::NoMemory;
 use std::alloc::Global;
 use std::slice;
-
-/// What the mentions of a session may weigh: each weighs one and the number of its parts.
-const MOST_WEIGHT: u64 = 100_000;
 
 /// The mentions of a session before a round, all of them noted.
 #[derive(Drop)]
@@ -25,7 +26,8 @@ pub struct Earlier<'a> {
     pub ghost noted: { IsComplete known.now rounds.now },
 }
 
-/// What a round has found so far, all of it noted, and what it weighs together with the mentions before.
+/// What a round has found so far, all of it noted, and what it weighs together with the mentions
+/// before.
 #[derive(Drop)]
 pub struct Walk {
     pub found: List<Mention>,
@@ -35,11 +37,12 @@ pub struct Walk {
 }
 
 impl Earlier<'_> {
-    /// Whether the mention was found before.
-    fn holds(&self, mention: &Mention) -> bool
-        ensures { result ≡ is_among (joined self.now.rounds.now) mention.now }
+    /// Whether the candidate's mention, which has this hash, was found before.
+    fn holds(&self, hash: u64, candidate: Candidate) -> bool
+        requires { hash ≡ mention_hash (mention_of candidate) }
+        ensures { result ≡ is_among (joined self.now.rounds.now) (mention_of candidate) }
     {
-        self.known.holds(self.rounds, mention)
+        self.known.holds(self.rounds, hash, candidate)
     }
 }
 
@@ -63,16 +66,19 @@ impl Walk {
         self.found
     }
 
-    /// Whether the mention was found in this round.
-    fn has(&self, mention: &Mention) -> bool
-        ensures { result ≡ is_among self.now.found mention.now }
+    /// Whether the candidate's mention, which has this hash, was found in this round.
+    fn has(&self, hash: u64, candidate: Candidate) -> bool
+        requires { hash ≡ mention_hash (mention_of candidate) }
+        ensures { result ≡ is_among self.now.found (mention_of candidate) }
     {
-        self.fresh.holds(slice::from_ref(&self.found), mention)
+        self.fresh
+            .holds(slice::from_ref(&self.found), hash, candidate)
     }
 
-    /// Adds a mention that was not found before.
-    fn add(&mut self, alloc: Global, mention: Mention) -> Result<(), NoMemory>
-        requires { length self.old.found < 2 ^ 32 }
+    /// Adds a mention that was not found before, and has this hash.
+    fn add(&mut self, alloc: Global, hash: u64, mention: Mention) -> Result<(), NoMemory>
+        requires few { length self.old.found < 2 ^ 32 }
+        requires hash { hash ≡ mention_hash mention }
         ensures ok { OnOk result (self.new.found ≡ self.old.found ++ mention ∷ []) }
         ensures err { OnErr result (self.new.found ≡ self.old.found) }
         ensures total { self.new.total ≡ self.old.total }
@@ -81,46 +87,52 @@ impl Walk {
             round: 0,
             index: self.found.len() as u32,
         };
-        self.fresh.note(alloc, &mention, place)?;
+        self.fresh.note(alloc, hash, place)?;
         self.found.push(mention)
     }
 
-    /// Meets a mention: a new one is added. Gives the weight that is too great, if it is with this one.
+    /// Meets a candidate: its mention is made and added where it is new. Gives the weight that is
+    /// too great, if it is with this one.
     fn meet(
         &mut self,
         alloc: Global,
         earlier: &Earlier,
-        mention: Mention,
+        candidate: Candidate,
     ) -> Result<Option<u64>, NoMemory>
         requires { IsWeighed (joined earlier.now.rounds.now) self.old.found self.old.total }
         ensures weighed { IsWeighed (joined earlier.now.rounds.now) self.new.found self.new.total }
-        ensures met { IfOk result (λ heavy. walked (joined earlier.now.rounds.now) (Found self.old.found) (one mention) ≡ result_of heavy self.new.found) }
+        ensures met { IfOk result (λ heavy.
+            LeadsTo (joined earlier.now.rounds.now) (one (mention_of candidate) ∷ [])
+            self.old.found heavy self.new.found) }
     {
-        if earlier.holds(&mention) || self.has(&mention) {
+        let hash = hash_candidate(candidate);
+        if earlier.holds(hash, candidate) || self.has(hash, candidate) {
             return Ok(None);
         }
-        let total = self.total + 1 + mention.parts.len() as u64;
-        if total > MOST_WEIGHT {
+        let total = self.total + 1;
+        if total > SESSION_WEIGHT {
             return Ok(Some(total));
         }
-        self.add(alloc, mention)?;
+        self.add(alloc, hash, candidate.make(alloc)?)?;
         self.total = total;
         Ok(None)
     }
 
-    /// Meets mentions in their order, up to one with which the weight is too great.
+    /// Meets candidates in their order, up to one with which the weight is too great.
     pub fn meet_all(
         &mut self,
         alloc: Global,
         earlier: &Earlier,
-        mentions: Vec<Mention>,
+        candidates: &[Candidate],
     ) -> Result<Option<u64>, NoMemory>
         requires { IsWeighed (joined earlier.now.rounds.now) self.old.found self.old.total }
         ensures weighed { IsWeighed (joined earlier.now.rounds.now) self.new.found self.new.total }
-        ensures met { IfOk result (λ heavy. fold (walked (joined earlier.now.rounds.now)) (Found self.old.found) (map one mentions.items) ≡ result_of heavy self.new.found) }
+        ensures met { IfOk result (λ heavy.
+            LeadsTo (joined earlier.now.rounds.now) (candidate_items candidates.now)
+            self.old.found heavy self.new.found) }
     {
-        for mention in mentions {
-            if let Some(total) = self.meet(alloc, earlier, mention)? {
+        for candidate in candidates {
+            if let Some(total) = self.meet(alloc, earlier, *candidate)? {
                 return Ok(Some(total));
             }
         }

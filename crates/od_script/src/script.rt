@@ -11,18 +11,19 @@
 //!
 //! A word is 1 to 64 ASCII letters. A name is 1 to 64 bytes: ASCII letters, digits, `_`, `.` and `-`.
 //! A number is `0`, or up to 9 digits without a leading zero. A script has at most 64 MiB.
-ghost use Rattle.std.specs.Prelude.{◌≡◌, ◌≤◌, ◌++◌, [], ◌∷◌, ℕ, List as Seq, Some, None, IfOk, IsErrOf, length};
+ghost use Rattle.std.specs.Prelude.{◌≡◌, ◌≤◌, ◌++◌, [], ◌∷◌, Some, None, IfOk, IsErrOf, length};
 ghost use Rattle.std.specs.List.{list_all};
 ghost use Rattle.std.specs.Option.{option_map};
 ghost use Rattle.std.specs.Str.{IsAscii, bytes_eq};
-ghost use Rattle.od_pattern.specs.declared.grammar.Head.{Head as HeadOf};
 ghost use Rattle.od_language.specs.Query.{words_of};
 ghost use Rattle.od_order.specs.Names.{is_name_byte, is_name, digits_from, script_number};
-ghost use Rattle.od_order.specs.Thin.{parts_of, query_line, doc_words, open_words, script_behind, script_of};
-ghost use Rattle.od_script.specs.Scripts.{head_shown, count_shown, opened, orders_shown, head_of, script_shown, IsBlock};
+ghost use Rattle.od_order.specs.Thin.{parts_of, query_line, doc_words, open_words, script_of};
+ghost use Rattle.od_order.specs.declared.script.TheConstants.{NUMBER_DIGITS};
+ghost use Rattle.od_script.specs.declared.script.ScriptFault.TheVariants.{NoMemory as OutOfMemory};
+ghost use Rattle.od_script.specs.Scripts.{head_shown, count_shown, adding_shown, opening_shown, orders_shown, head_of, script_shown, IsBlock, IsEnding};
 
 use od_command::history::Command;
-use od_order::script::{Order, Script};
+use od_order::script::{NAME_BYTES, NUMBER_DIGITS, Order, SCRIPT_BYTES, Script};
 use od_pattern::grammar::{GrammarKind, Head};
 use od_query::{is_letter, is_word_query};
 use od_text::cut::cut;
@@ -34,10 +35,19 @@ use std::str::from_utf8;
 /// Why no script was read.
 #[derive(Clone, Copy, Debug, PartialEq, Eq)]
 pub enum ScriptFault {
-    /// The bytes are no script of this stage, which has one query, one client, one document and one session.
+    /// The bytes are no script of this stage, which has one query, one client, one document and
+    /// one session.
     Later,
     /// Memory was refused.
     NoMemory,
+}
+
+impl From<NoMemory> for ScriptFault {
+    ghost from_gives = { λ _ fault. fault ≡ OutOfMemory };
+
+    fn from(_refused: NoMemory) -> ScriptFault {
+        ScriptFault::NoMemory
+    }
 }
 
 /// What a script says, borrowed from its bytes.
@@ -56,24 +66,8 @@ struct Pieces<'a> {
     limit: u32,
 }
 
-/// The most bytes of a script, 64 MiB.
-const SCRIPT_BYTES: usize = 67108864;
-
-/// The most bytes of a name.
-const NAME_BYTES: usize = 64;
-
-/// The most digits of a number.
-const NUMBER_DIGITS: usize = 9;
-
 /// The greatest limit of a session, in rounds.
 const MOST_ROUNDS: u32 = 100;
-
-/// Whether the bytes are those.
-fn equal(bytes: &[u8], others: &[u8]) -> bool
-    ensures { result ≡ bytes_eq bytes.now others.now }
-{
-    bytes == others
-}
 
 /// Whether it is an ASCII letter, a digit, `_`, `.` or `-`.
 fn is_name_byte(byte: u8) -> bool
@@ -106,7 +100,7 @@ fn ascii(bytes: &[u8]) -> &str
 
 /// The number of these digits.
 fn digits(text: &[u8]) -> Option<u32>
-    requires { length text.now ≤ 9 }
+    requires { length text.now ≤ NUMBER_DIGITS }
     ensures { result ≡ digits_from 0 text.now }
 {
     let mut number = 0u32;
@@ -137,7 +131,7 @@ fn query_line(line: &[u8]) -> Option<(&str, &str)>
     ensures { query_line line.now ≡ option_map head_shown result }
 {
     let (first, rest) = cut(line, b' ')?;
-    if !equal(first, b"query") {
+    if first != b"query".as_slice() {
         return None;
     }
     let (grammar, text) = cut(rest, b' ')?;
@@ -156,7 +150,7 @@ fn doc_line(line: &[u8]) -> Option<(&str, u32)>
     if let Some(_) = cut(count, b' ') {
         return None;
     }
-    if !equal(first, b"doc") || !is_name(document) {
+    if first != b"doc".as_slice() || !is_name(document) {
         return None;
     }
     let count = number(count)?;
@@ -173,7 +167,7 @@ fn open_line<'a>(grammar: &str, line: &'a [u8]) -> Option<(&'a str, u32)>
     if let Some(_) = cut(limit, b' ') {
         return None;
     }
-    if !equal(first, b"open") || !is_name(session) || !equal(named, grammar.as_bytes()) {
+    if first != b"open".as_slice() || !is_name(session) || named != grammar.as_bytes() {
         return None;
     }
     let limit = number(limit)?;
@@ -188,7 +182,7 @@ fn is_command(command: &[u8], session: &str, line: &[u8]) -> bool
     ensures { result ≡ bytes_eq line.now (command.now ++ session.now) }
 {
     match line.strip_prefix(command) {
-        Some(rest) => equal(rest, session.as_bytes()),
+        Some(rest) => rest == session.as_bytes(),
         None => false,
     }
 }
@@ -207,9 +201,10 @@ fn block(bytes: &[u8], count: u32) -> Option<(&[u8], &[u8])>
     Some(bytes.split_at(bytes.len() - rest.len()))
 }
 
-/// The session and its limit, from the lines behind the document's block: open, run and print, and no more.
+/// The session and its limit, from the lines behind the document's block: open, run and print, and
+/// no more.
 fn ending<'a>(grammar: &str, bytes: &'a [u8]) -> Option<(&'a str, u32)>
-    ensures { (head : HeadOf) (doc body : Seq ℕ) → head.name ≡ grammar.now → script_behind head doc body (parts_of bytes.now) ≡ option_map (opened head doc body) result }
+    ensures { IsEnding grammar.now bytes.now result }
 {
     let (open, rest) = cut(bytes, b'\n')?;
     let (run, rest) = cut(rest, b'\n')?;
@@ -236,7 +231,7 @@ fn pieces_of(bytes: &[u8]) -> Option<Pieces<'_>>
     let (client, rest) = cut(rest, b'\n')?;
     let (doc, rest) = cut(rest, b'\n')?;
     let (grammar, query) = query_line(query)?;
-    if !equal(client, b"client") {
+    if client != b"client".as_slice() {
         return None;
     }
     let (document, count) = doc_line(doc)?;
@@ -263,7 +258,7 @@ fn single<T: Drop>(alloc: Global, item: T) -> Result<List<T>, NoMemory>
 
 /// The command that adds the document.
 fn adding(alloc: Global, pieces: &Pieces<'_>) -> Result<Command, NoMemory>
-    ensures { IfOk result (λ command. command ≡ Command.AddDoc pieces.now.document.now pieces.now.body.now) }
+    ensures { IfOk result (λ command. command ≡ adding_shown pieces.now) }
 {
     Ok(Command::AddDoc {
         name: Text::from_str(alloc, pieces.document)?,
@@ -273,7 +268,7 @@ fn adding(alloc: Global, pieces: &Pieces<'_>) -> Result<Command, NoMemory>
 
 /// The command that opens the session.
 fn opening(alloc: Global, pieces: &Pieces<'_>) -> Result<Command, NoMemory>
-    ensures { IfOk result (λ command. command ≡ Command.OpenSession pieces.now.session.now pieces.now.grammar.now pieces.now.limit) }
+    ensures { IfOk result (λ command. command ≡ opening_shown pieces.now) }
 {
     Ok(Command::OpenSession {
         name: Text::from_str(alloc, pieces.session)?,
@@ -320,8 +315,8 @@ fn script(alloc: Global, pieces: &Pieces<'_>) -> Result<Script, NoMemory>
     })
 }
 
-/// Reads a script. The document's block and the query's words are taken as they stand: neither is tested as a
-/// document, nor folded.
+/// Reads a script. The document's block and the query's words are taken as they stand: neither is
+/// tested as a document, nor folded.
 pub fn read_script(alloc: Global, bytes: &[u8]) -> Result<Script, ScriptFault>
     ensures ok { IfOk result (λ script. script_of bytes.now ≡ Some script) }
     ensures later { IsErrOf result ScriptFault.Later → script_of bytes.now ≡ None }
@@ -329,10 +324,8 @@ pub fn read_script(alloc: Global, bytes: &[u8]) -> Result<Script, ScriptFault>
     let Some(pieces) = pieces_of(bytes) else {
         return Err(ScriptFault::Later);
     };
-    match script(alloc, &pieces) {
-        Ok(script) => Ok(script),
-        Err(NoMemory) => Err(ScriptFault::NoMemory),
-    }
+    let script = script(alloc, &pieces)?;
+    Ok(script)
 }
 
 #[cfg(test)]
@@ -348,10 +341,6 @@ mod tests {
         2\tsleep\tsleep\tVERB\tVBP\t_\t0\troot\t_\t_\n\
         \n\
         open s q 5\nrun s\nprint s\n";
-
-    fn is_refused(alloc: Global, bytes: &[u8]) -> bool {
-        matches!(read_script(alloc, bytes), Err(ScriptFault::Later))
-    }
 
     #[test]
     fn the_first_example_has_one_head_and_four_orders(rt: HostRuntime) {
@@ -387,50 +376,5 @@ mod tests {
         assert_eq!(rt; *limit, 5);
         assert!(rt; matches!(running, Order::Run(_)));
         assert!(rt; matches!(printing, Order::One(Command::Print { .. })));
-    }
-
-    #[test]
-    fn a_last_line_without_its_line_feed_is_refused(rt: HostRuntime) {
-        let cut = &EXAMPLE[..EXAMPLE.len() - 1];
-        assert!(rt; is_refused(rt.alloc(), cut));
-    }
-
-    #[test]
-    fn no_bytes_are_refused(rt: HostRuntime) {
-        assert!(rt; is_refused(rt.alloc(), b""));
-    }
-
-    #[test]
-    fn limits_are_from_1_to_100(rt: HostRuntime) {
-        assert!(rt;
-            is_refused(
-                rt.alloc(),
-                b"query q a\nclient\ndoc d 0\nopen s q 0\nrun s\nprint s\n"
-            )
-        );
-        assert!(rt;
-            read_script(
-                rt.alloc(),
-                b"query q a\nclient\ndoc d 0\nopen s q 100\nrun s\nprint s\n"
-            )
-            .is_ok()
-        );
-        assert!(rt;
-            is_refused(
-                rt.alloc(),
-                b"query q a\nclient\ndoc d 0\nopen s q 101\nrun s\nprint s\n"
-            )
-        );
-    }
-
-    #[test]
-    fn a_document_is_any_bytes(rt: HostRuntime) {
-        assert!(rt;
-            read_script(
-                rt.alloc(),
-                b"query q a\nclient\ndoc d 1\n\xff\x00\nopen s q 1\nrun s\nprint s\n"
-            )
-            .is_ok()
-        );
     }
 }

@@ -17,23 +17,13 @@ use std::alloc::{AllocError, Global};
 pub fn entry_line(alloc: Global, entry: &Entry) -> Result<Bytes, NoMemory>
     ensures { IfOk result (λ line. line ≡ own_line entry.now) }
 {
-    match object_line(alloc, entry) {
-        Ok(line) => Ok(Bytes::from_vec(line)),
-        Err(_) => Err(NoMemory),
-    }
-}
-
-/// The bytes of an entry's line.
-fn object_line(alloc: Global, entry: &Entry) -> Result<Vec<u8>, AllocError>
-    ensures { IfOk result (λ line. line.items ≡ own_line entry.now) }
-{
     let mut members = Map::new(alloc);
     put_entry(&mut members, alloc, entry)?;
     put_reply(&mut members, alloc, &entry.reply)?;
     let object = Value::Object(members);
     let mut line = object.to_vec(alloc)?;
     line.push(b'\n')?;
-    Ok(line)
+    Ok(Bytes::from_vec(line))
 }
 
 /// The document or session that a command names.
@@ -53,7 +43,8 @@ fn named(command: &Command) -> Option<&str>
 
 /// Puts what the line of every entry has.
 fn put_entry(members: &mut Members, alloc: Global, entry: &Entry) -> Result<(), AllocError>
-    ensures { OnOk result (members_view members.new.entries ≡ with_members (entry_members entry.now) (members_view members.old.entries)) }
+    ensures { OnOk result (members_view members.new.entries
+        ≡ with_members (entry_members entry.now) (members_view members.old.entries)) }
 {
     put_count(members, alloc, "caller", entry.caller)?;
     put_count(members, alloc, "call", entry.call)?;
@@ -78,7 +69,8 @@ fn sizes_value(alloc: Global, sizes: &[u32]) -> Result<Value, AllocError>
 
 /// Puts the fields of a reply.
 fn put_reply(members: &mut Members, alloc: Global, reply: &Reply) -> Result<(), AllocError>
-    ensures { OnOk result (members_view members.new.entries ≡ with_members (reply_members reply.now) (members_view members.old.entries)) }
+    ensures { OnOk result (members_view members.new.entries
+        ≡ with_members (reply_members reply.now) (members_view members.old.entries)) }
 {
     match reply {
         Reply::Added { documents } => { put_count(members, alloc, "documents", *documents) }

@@ -1,13 +1,12 @@
-//! The lines of mentions, each written straight into the output: a print has one for each mention of its session.
-ghost use Rattle.std.specs.Prelude.{◌≡◌, ◌∷◌, ◌++◌, map, flat_map, slice_get, codes, IfOk, OnOk};
-ghost use Rattle.json.specs.Token.{key as key_token};
-ghost use Rattle.json.specs.Tree.{json_tokens};
+//! The lines of mentions, each written straight into the output: a print has one for each mention
+//! of its session.
+ghost use Rattle.std.specs.Prelude.{◌≡◌, ◌++◌, map, flat_map, slice_get, codes, IfOk, OnOk};
 ghost use Rattle.serde_json.specs.Data.{array};
 ghost use Rattle.serde_json.specs.View.{items_of};
-ghost use Rattle.serde_json.specs.Written.{outline};
 ghost use Rattle.od_command.specs.Lines.Data.{count, word, word_or_null};
-ghost use Rattle.od_command.specs.Lines.Mentions.{text_in, part_data, mention_data, tokens_in, line_in, mention_line as mention_line_of};
+ghost use Rattle.od_command.specs.Lines.Mentions.{text_in, part_data, mention_data, tokens_in, line_in, mention_line};
 ghost use Rattle.od_extraction.specs.Joined.{joined};
+ghost use Rattle.od_lines.specs.Tokens.{member_tokens, value_tokens};
 
 use crate::lines::words::span_text;
 use json::Writer;
@@ -18,50 +17,22 @@ use od_text::list::List;
 use od_text::text::{Bytes, NoMemory, Text};
 use std::alloc::{AllocError, Global};
 
-/// The line of a mention of this session; of a mention in no document of `docs`, no line.
-pub fn mention_line(
-    alloc: Global,
-    session: &Text,
-    docs: &[Doc],
-    mention: &Mention,
-) -> Result<Bytes, NoMemory>
-    ensures { IfOk result (λ line. line ≡ mention_line_of session.now docs.now mention.now) }
-{
-    match add_mention(Vec::new(alloc), alloc, session, docs, mention) {
-        Ok(line) => Ok(Bytes::from_vec(line)),
-        Err(_) => Err(NoMemory),
-    }
-}
-
-/// The lines of a session: one for each mention, in the order in which the rounds added them.
+/// The lines of a session: one for each mention, in the order in which the rounds added them. A
+/// mention in no document of `docs` has none.
 pub fn session_lines(
     alloc: Global,
     session: &Text,
     docs: &[Doc],
     rounds: &[List<Mention>],
 ) -> Result<Bytes, NoMemory>
-    ensures { IfOk result (λ lines. lines ≡ flat_map (mention_line_of session.now docs.now) (joined rounds.now)) }
-{
-    match add_rounds(alloc, session, docs, rounds) {
-        Ok(lines) => Ok(Bytes::from_vec(lines)),
-        Err(_) => Err(NoMemory),
-    }
-}
-
-/// The bytes of a session's lines.
-fn add_rounds(
-    alloc: Global,
-    session: &Text,
-    docs: &[Doc],
-    rounds: &[List<Mention>],
-) -> Result<Vec<u8>, AllocError>
-    ensures { IfOk result (λ lines. lines.items ≡ flat_map (mention_line_of session.now docs.now) (joined rounds.now)) }
+    ensures { IfOk result (λ lines.
+        lines ≡ flat_map (mention_line session.now docs.now) (joined rounds.now)) }
 {
     let mut lines = Vec::new(alloc);
     for round in rounds {
         lines = add_mentions(lines, alloc, session, docs, round.get())?;
     }
-    Ok(lines)
+    Ok(Bytes::from_vec(lines))
 }
 
 /// The output with the lines of one round's mentions.
@@ -72,7 +43,8 @@ fn add_mentions(
     docs: &[Doc],
     mentions: &[Mention],
 ) -> Result<Vec<u8>, AllocError>
-    ensures { IfOk result (λ lines. lines.items ≡ out.items ++ flat_map (mention_line_of session.now docs.now) mentions.now) }
+    ensures { IfOk result (λ lines.
+        lines.items ≡ out.items ++ flat_map (mention_line session.now docs.now) mentions.now) }
 {
     let mut lines = out;
     for mention in mentions {
@@ -90,7 +62,8 @@ fn add_mention(
     docs: &[Doc],
     mention: &Mention,
 ) -> Result<Vec<u8>, AllocError>
-    ensures { IfOk result (λ lines. lines.items ≡ out.items ++ mention_line_of session.now docs.now mention.now) }
+    ensures { IfOk result (λ lines.
+        lines.items ≡ out.items ++ mention_line session.now docs.now mention.now) }
 {
     match docs.get(mention.document as usize) {
         None => Ok(out),
@@ -106,7 +79,8 @@ fn add_line(
     doc: &Doc,
     mention: &Mention,
 ) -> Result<Vec<u8>, AllocError>
-    ensures { IfOk result (λ lines. lines.items ≡ out.items ++ line_in session.now (Some doc.now) mention.now) }
+    ensures { IfOk result (λ lines.
+        lines.items ≡ out.items ++ line_in session.now (Some doc.now) mention.now) }
 {
     let tokens = tokens_of(doc, mention.sentence);
     let mut line = Writer::new(out);
@@ -128,7 +102,8 @@ fn tokens_of(doc: &Doc, sentence: u32) -> &[Token]
 
 /// Writes a key and a number.
 fn write_count(line: &mut Writer, key: &str, number: u32) -> Result<(), AllocError>
-    ensures tokens { OnOk result (line.new.tokens ≡ line.old.tokens ++ key_token key.now ∷ json_tokens (outline (count number))) }
+    ensures tokens { OnOk result (line.new.tokens ≡ line.old.tokens
+        ++ member_tokens key.now (count number)) }
     ensures before { line.new.before ≡ line.old.before }
 {
     line.key(key)?;
@@ -137,7 +112,8 @@ fn write_count(line: &mut Writer, key: &str, number: u32) -> Result<(), AllocErr
 
 /// Writes a key and a text.
 fn write_word(line: &mut Writer, key: &str, text: &Text) -> Result<(), AllocError>
-    ensures tokens { OnOk result (line.new.tokens ≡ line.old.tokens ++ key_token key.now ∷ json_tokens (outline (word text.now))) }
+    ensures tokens { OnOk result (line.new.tokens ≡ line.old.tokens
+        ++ member_tokens key.now (word text.now)) }
     ensures before { line.new.before ≡ line.old.before }
 {
     line.key(key)?;
@@ -146,7 +122,8 @@ fn write_word(line: &mut Writer, key: &str, text: &Text) -> Result<(), AllocErro
 
 /// Writes the label of an argument, which may be absent.
 fn write_label(line: &mut Writer, label: &Option<Text>) -> Result<(), AllocError>
-    ensures tokens { OnOk result (line.new.tokens ≡ line.old.tokens ++ key_token (codes "label") ∷ json_tokens (outline (word_or_null label.now))) }
+    ensures tokens { OnOk result (line.new.tokens ≡ line.old.tokens
+        ++ member_tokens (codes "label") (word_or_null label.now)) }
     ensures before { line.new.before ≡ line.old.before }
 {
     line.key("label")?;
@@ -164,7 +141,8 @@ fn write_text(
     start: u32,
     end: u32,
 ) -> Result<(), AllocError>
-    ensures tokens { OnOk result (line.new.tokens ≡ line.old.tokens ++ key_token (codes "text") ∷ json_tokens (outline (word (text_in tokens.now start end)))) }
+    ensures tokens { OnOk result (line.new.tokens ≡ line.old.tokens
+        ++ member_tokens (codes "text") (word (text_in tokens.now start end))) }
     ensures before { line.new.before ≡ line.old.before }
 {
     let text = span_text(alloc, tokens, start, end)?;
@@ -179,7 +157,8 @@ fn write_part(
     tokens: &[Token],
     part: &Part,
 ) -> Result<(), AllocError>
-    ensures tokens { OnOk result (line.new.tokens ≡ line.old.tokens ++ json_tokens (outline (part_data tokens.now part.now))) }
+    ensures tokens { OnOk result (line.new.tokens ≡ line.old.tokens
+        ++ value_tokens (part_data tokens.now part.now)) }
     ensures before { line.new.before ≡ line.old.before }
 {
     line.begin_object()?;
@@ -198,7 +177,8 @@ fn write_parts(
     tokens: &[Token],
     parts: &List<Part>,
 ) -> Result<(), AllocError>
-    ensures tokens { OnOk result (line.new.tokens ≡ line.old.tokens ++ key_token (codes "arguments") ∷ json_tokens (outline (array (items_of (map (part_data tokens.now) parts.now))))) }
+    ensures tokens { OnOk result (line.new.tokens ≡ line.old.tokens
+        ++ member_tokens (codes "arguments") (array (items_of (map (part_data tokens.now) parts.now)))) }
     ensures before { line.new.before ≡ line.old.before }
 {
     line.key("arguments")?;
@@ -218,7 +198,8 @@ fn write_mention(
     tokens: &[Token],
     mention: &Mention,
 ) -> Result<(), AllocError>
-    ensures tokens { OnOk result (line.new.tokens ≡ line.old.tokens ++ json_tokens (outline (mention_data session.now document.now tokens.now mention.now))) }
+    ensures tokens { OnOk result (line.new.tokens ≡ line.old.tokens
+        ++ value_tokens (mention_data session.now document.now tokens.now mention.now)) }
     ensures before { line.new.before ≡ line.old.before }
 {
     line.begin_object()?;

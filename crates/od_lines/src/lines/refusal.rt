@@ -15,7 +15,8 @@ pub fn put_refusal(
     alloc: Global,
     refusal: &Refusal,
 ) -> Result<(), AllocError>
-    ensures { OnOk result (members_view members.new.entries ≡ with_members (refusal_members refusal.now) (members_view members.old.entries)) }
+    ensures { OnOk result (members_view members.new.entries
+        ≡ with_members (refusal_members refusal.now) (members_view members.old.entries)) }
 {
     match *refusal {
         Refusal::BadDoc { line, kind } => {

@@ -16,7 +16,8 @@ fn tokens_between(tokens: &[Token], start: u32, end: u32) -> &[Token]
 
 /// Adds the words of tokens, each behind a space.
 fn add_words(text: &mut String, tokens: &[Token]) -> Result<(), AllocError>
-    ensures { OnOk result (string_bytes text.new ≡ string_bytes text.old ++ flat_map (λ token. 32 ∷ token.word) tokens.now) }
+    ensures { OnOk result (string_bytes text.new
+        ≡ string_bytes text.old ++ flat_map (λ token. 32 ∷ token.word) tokens.now) }
 {
     for token in tokens {
         text.push(' ')?;
@@ -27,7 +28,8 @@ fn add_words(text: &mut String, tokens: &[Token]) -> Result<(), AllocError>
 
 /// The words of tokens, joined by one space.
 fn joined_words(alloc: Global, tokens: &[Token]) -> Result<String, AllocError>
-    ensures { IfOk result (λ text. string_bytes text ≡ join_with_byte 32 (map (λ token. token.word) tokens.now)) }
+    ensures { IfOk result (λ text.
+        string_bytes text ≡ join_with_byte 32 (map (λ token. token.word) tokens.now)) }
 {
     match tokens {
         [] => Ok(String::new(alloc)),

@@ -4,7 +4,8 @@ use Rattle.od_extraction.specs.declared.mention.RoundResult.TheVariants.{Found}
 use Rattle.od_matching.specs.Rounds.Round.{walked}
 use Rattle.od_extraction.specs.Joined.{joined}
 use Rattle.od_rounds.specs.Walks.{IsWeighed}
-use Rattle.od_rounds.proofs.Walks.{left_from, sentence_items, document_items}
+use Rattle.od_rounds.specs.Queries.{sentence_items, document_items}
+use Rattle.od_rounds.proofs.Walks.{left_from}
 use Rattle.od_rounds.proofs.round.visit_document.Given as goal
 
 abbrev pub invariant-loop-number : goal.invariant-loop-number

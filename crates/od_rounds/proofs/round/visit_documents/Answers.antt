@@ -4,7 +4,8 @@ use Rattle.od_extraction.specs.declared.mention.RoundResult.TheVariants.{Found}
 use Rattle.od_matching.specs.Rounds.Round.{walked}
 use Rattle.od_extraction.specs.Joined.{joined}
 use Rattle.od_rounds.specs.Walks.{result_of}
-use Rattle.od_rounds.proofs.Walks.{document_items, documents_from, walk_stopped}
+use Rattle.od_rounds.specs.Queries.{document_items}
+use Rattle.od_rounds.proofs.Walks.{documents_from, walk_stopped}
 use Rattle.od_rounds.proofs.round.visit_documents.Goals as goal
 
 pub loop-document-init : goal.loop-document-init

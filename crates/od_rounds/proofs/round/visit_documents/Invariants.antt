@@ -1,16 +1,15 @@
 -- The documents that are left lead to where all of them do.
-use Rattle.std.proofs.Common.{◌≡◌, fold, flat_map}
+use Rattle.std.proofs.Common.{◌≡◌, fold}
 use Rattle.od_extraction.specs.declared.mention.RoundResult.TheVariants.{Found}
-use Rattle.od_matching.specs.Rounds.Sites.{sites}
 use Rattle.od_matching.specs.Rounds.Round.{walked}
 use Rattle.od_extraction.specs.Joined.{joined}
-use Rattle.od_rounds.specs.Queries.{words_items}
 use Rattle.od_rounds.specs.Walks.{IsWeighed}
-use Rattle.od_rounds.proofs.Walks.{left_from, document_items}
+use Rattle.od_rounds.specs.Queries.{document_items, all_items}
+use Rattle.od_rounds.proofs.Walks.{left_from}
 use Rattle.od_rounds.proofs.round.visit_documents.Given as goal
 
 abbrev pub invariant-loop-document : goal.invariant-loop-document
 invariant-loop-document l =
     IsWeighed (joined l.earlier.rounds.now) l.walk.found l.walk.total
     × (fold (walked (joined l.earlier.rounds.now)) (Found l.walk.found) (left_from (document_items l.words (joined l.earlier.rounds.now)) l.document l.docs)
-    ≡ fold (walked (joined l.earlier.rounds.now)) (Found l.initial.walk.found) (flat_map (words_items l.words (joined l.earlier.rounds.now)) (sites l.docs)))
+    ≡ fold (walked (joined l.earlier.rounds.now)) (Found l.initial.walk.found) (all_items l.words (joined l.earlier.rounds.now) l.docs))

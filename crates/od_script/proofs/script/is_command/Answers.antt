@@ -4,7 +4,7 @@ use Rattle.od_script.proofs.script.is_command.Goals as goal
 
 pub returns-in-Some : goal.returns-in-Some
 returns-in-Some c =
-    c.equal.ensures ∙ rw (goes_on c.args.command.now c.args.session.now c.args.line.now, c.in-Some.ensures.cases.0, c.in-Some.ensures.cases.1, c.as_bytes.ensures.value) refl
+    c.eq.ensures ∙ rw (goes_on c.args.command.now c.args.session.now c.args.line.now, c.in-Some.ensures.cases.0, c.in-Some.ensures.cases.1, c.as_bytes.ensures.value) refl
 
 pub returns-in-None : goal.returns-in-None
 returns-in-None c = rw (goes_on c.args.command.now c.args.session.now c.args.line.now, c.in-None.ensures.cases) refl

@@ -12,8 +12,8 @@ loop-index-preserved c =
     let few : length taken ≡ c.loop-index.index = length-take-le c.loop-index.index c.args.added.now (omega arith) in
     let at : place (length c.args.rounds.now) c.loop-index.index ≡ place (length c.args.rounds.now) (length taken) = ap (place (length c.args.rounds.now)) (sym few) in
     let more : take (c.loop-index.index + 1) c.args.added.now ≡ taken ++ m ∷ [] = take_more c.args.added.now c.loop-index.index m (omega arith) ∙ ap (λ x. taken ++ x ∷ []) (sym c.index-added-index.is) in (
-      complete_kept c.loop-index.self c.note.new.self m _ c.args.rounds.now c.in_ok-note.ensures.ok c.loop-index.invariant.0,
+      complete_kept c.loop-index.self c.note.new.self _ _ c.args.rounds.now c.in_ok-note.ensures.ok c.loop-index.invariant.0,
       subst (λ l. IsComplete c.note.new.self (c.args.rounds.now ++ l ∷ [])) (sym more)
-          (complete_more c.loop-index.self c.note.new.self c.args.rounds.now taken m _ at c.in_ok-note.ensures.ok c.loop-index.invariant.1),
+          (complete_more c.loop-index.self c.note.new.self c.args.rounds.now taken m _ _ c.hash_mention.ensures at c.in_ok-note.ensures.ok c.loop-index.invariant.1),
       refl,
     )
