@@ -1,3 +1,4 @@
+pub mod Answers
 pub mod Callers
 pub mod Climbs
 pub mod Openings
