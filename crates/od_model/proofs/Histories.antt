@@ -1,6 +1,8 @@
+pub mod Alike
 pub mod Answers
 pub mod Callers
 pub mod Climbs
+pub mod Frames
 pub mod Openings
 pub mod Orders
 pub mod Prints

@@ -1,7 +1,9 @@
 //! The laws of histories, for any object that a history goes on from.
 //!
 //! A law is what a function here ensures; the function itself does nothing.
-ghost use Rattle.od_model.specs.History.Laws.{EveryCommandIsAnswered, OneAnswer, OneEffect, FollowingBegins, FrontsBegin, NothingFollows};
+ghost use Rattle.od_session.specs.Parts.{nothing};
+ghost use Rattle.od_model.specs.Object.Sound.{IsSound};
+ghost use Rattle.od_model.specs.History.Laws.{EveryCommandIsAnswered, OneAnswer, OneEffect, FollowingBegins, FrontsBegin, NothingFollows, SoundnessIsKept, PrintsShowRounds, DocumentsGrow, HeldSessionsStay, NextRoundsStay, HeldAnswersStay, EqualRoundsShowSame, FinishedPrintsAgree, LaterPrintsGoOn};
 
 /// The object answers every command of every caller: no legal history is stuck. `Settle` is answered too: by one
 /// segment of all sentences at least, and by none where no sentence is committed.
@@ -25,4 +27,48 @@ pub fn orders_begin()
 /// nor of the beginning of one.
 pub fn no_whole_run_is_a_front_of_another()
     ensures { NothingFollows }
+{}
+
+/// A legal history from a sound object, whose grammars are accepted, leads to a sound object.
+pub fn soundness_is_kept()
+    ensures { SoundnessIsKept }
+{}
+
+/// No document and no session are a sound object.
+pub fn the_empty_start_is_sound()
+    ensures { IsSound nothing }
+{}
+
+/// Each print of a legal history from a sound object, whose grammars are accepted, shows the rounds over the
+/// documents that its session was opened with.
+pub fn prints_show_the_rounds()
+    ensures { PrintsShowRounds }
+{}
+
+/// Committed documents stay as they are and where they are; entries only add further ones behind them.
+pub fn documents_only_grow()
+    ensures { DocumentsGrow }
+{}
+
+/// The session that a caller holds is left alone by others' entries: it stays the same, with its rounds, documents,
+/// limit and holder; its next round over the documents of then is the same; and so is the answer
+/// to the caller's next step, print or release of it.
+pub fn held_sessions_are_untouched()
+    ensures session { HeldSessionsStay }
+    ensures round { NextRoundsStay }
+    ensures answers { HeldAnswersStay }
+{}
+
+/// Two prints of sessions that were opened alike, with one grammar over the same documents and with one limit, in one
+/// history or in two, show the same when both sessions are finished, and whenever they have as many rounds: the same
+/// mentions, and under one name the same lines. So a session that was resumed prints what it would have printed.
+pub fn finished_prints_are_equal()
+    ensures finished { FinishedPrintsAgree }
+    ensures rounds { EqualRoundsShowSame }
+{}
+
+/// After more rounds the print of a session that was opened alike goes on from the earlier print: its mentions
+/// and its lines begin with those.
+pub fn later_prints_go_on()
+    ensures { LaterPrintsGoOn }
 {}

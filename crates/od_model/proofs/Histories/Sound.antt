@@ -45,7 +45,7 @@ pub rounds-none : (docs : List Doc) (g : Grammar) → rounds docs g 0 ≡ Some [
 unfolding rounds
 rounds-none docs g = refl
 
-rounds-suc : (docs : List Doc) (g : Grammar) (r : ℕ) → rounds docs g (suc r) ≡ one_more docs g (rounds docs g r)
+pub rounds-suc : (docs : List Doc) (g : Grammar) (r : ℕ) → rounds docs g (suc r) ≡ one_more docs g (rounds docs g r)
 unfolding rounds
 rounds-suc docs g r = refl
 
