@@ -8,7 +8,6 @@ use Rattle.od_pattern.specs.declared.grammar.Grammar.{Grammar}
 use Rattle.od_extraction.specs.declared.mention.Mention.{Mention}
 use Rattle.od_extraction.specs.declared.mention.RoundResult.{RoundResult}
 use Rattle.od_extraction.specs.declared.mention.RoundResult.TheVariants.{Found, Crowded, TooMany}
-use Rattle.od_extraction.specs.declared.phase.Phase.{Phase}
 use Rattle.od_extraction.specs.declared.phase.Phase.TheVariants.{Finished}
 use Rattle.od_extraction.specs.Joined.{joined}
 use Rattle.od_extraction.specs.Spans.{LiesIn}

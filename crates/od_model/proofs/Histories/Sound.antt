@@ -1,5 +1,5 @@
 -- Along a legal history the lists of each session are those of the rounds over its documents.
-use Rattle.std.proofs.Common.{◌≡◌, ◌≢◌, ℕ, suc, ◌+◌, ◌≤◌, List, [], ◌∷◌, ◌++◌, length, take, Option, Some, None, unwrap_or, Result, Ok, Err, Bool, true, false, cond, ◌||◌, ◌&&◌, nat_lt, nat_le, refl, sym, ap, ◌∙◌, subst, append-nil, append_assoc, if◌then◌else◌, arith, eqb, eq-eqb, length-append, bytes_eq, ltb-false}
+use Rattle.std.proofs.Common.{◌≡◌, ◌≢◌, ℕ, suc, ◌+◌, List, [], ◌∷◌, ◌++◌, length, take, Option, Some, None, unwrap_or, Result, Ok, Err, Bool, true, false, cond, ◌||◌, ◌&&◌, nat_lt, nat_le, refl, sym, ap, ◌∙◌, subst, append-nil, append_assoc, if◌then◌else◌, arith, eqb, eq-eqb, length-append, bytes_eq, ltb-false}
 use Rattle.std.proofs.lemmas.Bool.{or_parts}
 use Rattle.std.specs.List.{list_any}
 use Rattle.std.proofs.lemmas.List.{take-append-le}
@@ -25,12 +25,12 @@ use Rattle.od_session.specs.declared.object.OneThread.{OneThread}
 use Rattle.od_language.specs.Query.{grammar_of}
 use Rattle.od_document.specs.Building.{document_of}
 use Rattle.od_document.specs.Faults.{doc_fault}
-use Rattle.od_text.specs.Lists.{Each, EachPoint, points_after}
+use Rattle.od_text.specs.Lists.{Each, points_after}
 use Rattle.od_matching.specs.Rounds.Round.{round, rounds, one_more, with_found}
 use Rattle.od_extraction.specs.Joined.{joined}
 use Rattle.od_matching.specs.Rounds.Phases.{phase, greatest_first, ends_empty}
 use Rattle.od_session.specs.declared.object.TheConstants.{SESSIONS, SESSION_ROUNDS}
-use Rattle.od_session.specs.Parts.{nothing, IsAccepted, has_doc, is_full, size_of, is_named, Distinct, session_of, has_session, head_of, is_known, grammar_at, phase_with, round_at}
+use Rattle.od_session.specs.Parts.{nothing, IsAccepted, has_doc, is_full, size_of, is_named, session_of, has_session, head_of, is_known, grammar_at, phase_with, round_at}
 use Rattle.od_model.specs.Object.Replies.{reply_read, reply_headed, reply_step, reply_phase, reply_round, reply_resume, reply_unheld, reply_print, reply_release, held, held_in, held_as, Replies}
 use Rattle.od_model.specs.Object.Sound.{IsSoundSession, IsSound}
 use Rattle.od_model.specs.Object.Effects.{doc_made, change, found_of, stepped, opened, effect_of}

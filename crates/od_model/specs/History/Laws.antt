@@ -12,7 +12,7 @@ use Rattle.od_command.specs.declared.history.Entry.{Entry}
 use Rattle.od_order.specs.declared.script.Order.{Order}
 use Rattle.od_session.specs.declared.object.SessionState.{SessionState}
 use Rattle.od_session.specs.declared.object.OneThread.{OneThread}
-use Rattle.od_session.specs.Parts.{nothing, IsAccepted, session_of, round_at}
+use Rattle.od_session.specs.Parts.{IsAccepted, session_of, round_at}
 use Rattle.od_text.specs.Lists.{Each}
 use Rattle.od_model.specs.Object.Effects.{effect_of}
 use Rattle.od_model.specs.Object.Replies.{Replies}
