@@ -27,6 +27,7 @@ use Rattle.od_model.specs.Object.Effects.{doc_made, change, stepped, taken_by, l
 use Rattle.od_model.specs.Object.Sound.{IsSound, IsSoundSession}
 use Rattle.od_model.specs.History.Legal.{state_after, IsNext}
 use Rattle.od_model.specs.History.Laws.{IsHeldThrough, IsOn}
+use Rattle.od_model.proofs.Objects.Answered.{IsHolding, IsFree, Answered, answered}
 use Rattle.od_model.proofs.Objects.Names.{same-name}
 use Rattle.od_model.proofs.Histories.Steps.{state_after-snoc, state_after-append}
 
@@ -108,41 +109,45 @@ module _ (heads : List Head) (o : OneThread) (caller other : ℕ) (name : List �
   abbrev Stays : OneThread → Type 0
   Stays after = session_of name after.sessions ≡ Some s
 
-  busy-by : (b : Bool) → eqb caller other ≡ b → (if b then Ok s else Err (Busy caller)) ≡ Err (Busy caller)
-  busy-by true e = absurd (others (sym (eqb-true caller other e)))
-  busy-by false e = refl
+  -- another caller holds no session of the name, and it is not free
+  not-held : (asked : List ℕ) → IsHolding o other asked → asked ≢ name
+  not-held asked h is =
+      let found : session_of name o.sessions ≡ Some h.session = subst (λ n. session_of n o.sessions ≡ Some h.session) is h.there in
+      let same : h.session ≡ s = cc in
+      let owner : Some other ≡ Some caller = sym h.holds ∙ ap (λ (t : SessionState). t.holder) same ∙ holds in
+      others cc
 
-  -- to another caller it is busy
-  busy : (asked : List ℕ) → asked ≡ name → held o other asked ≡ Err (Busy caller)
-  busy asked is = ap (λ n. held_in other (session_of n o.sessions)) is ∙ ap (held_in other) there ∙ ap (held_as other s) holds ∙ busy-by (eqb caller other) refl
+  not-free : (asked : List ℕ) → IsFree o asked → asked ≢ name
+  not-free asked h is =
+      let found : session_of name o.sessions ≡ Some h.session = subst (λ n. session_of n o.sessions ≡ Some h.session) is h.there in
+      let same : h.session ≡ s = cc in
+      let owner : None ≡ Some caller = sym h.free ∙ ap (λ (t : SessionState). t.holder) same ∙ holds in
+      absurd cc
 
-  busy-resume : (asked : List ℕ) → asked ≡ name → reply_resume heads (session_of asked o.sessions) ≡ Refused (Busy caller)
-  busy-resume asked is = ap (λ n. reply_resume heads (session_of n o.sessions)) is ∙ ap (reply_resume heads) there ∙ ap (reply_unheld heads s) holds
-
-  -- a change of a session of another name, where a change of this one would have been refused
+  -- a change of a session of another name
   changed : (asked : List ℕ) (f : SessionState → SessionState) → ((t : SessionState) → (f t).name ≡ t.name) → asked ≢ name → Stays (record o { sessions = change asked f o.sessions })
   changed asked f keeps apart = change-apart asked name f keeps apart o.sessions ∙ there
 
-  stays-next : (command : Command) (reply : Reply) → Replies heads o other command reply → Stays (effect_of heads o other command reply)
-  stays-next (AddDoc asked body) (Added documents) r = there
-  stays-next (AddDoc asked body) reply r = there
-  stays-next (OpenSession asked grammar limit) (Opened documents shown) r = session-before name o.sessions (opened asked documents limit other (head_of grammar heads)) s there
-  stays-next (OpenSession asked grammar limit) reply r = there
-  stays-next (Step asked) (Stepped round added phase) r = changed asked (stepped o.docs) (λ t. refl) (λ is. let refused : Stepped round added phase ≡ Refused (Busy caller) = r ∙ ap (reply_step o) (busy asked is) in cc)
-  stays-next (Step asked) reply r = there
-  stays-next (Resume asked) (Resumed documents limit round mentions phase) r = changed asked (taken_by other) (λ t. refl) (λ is. let refused : Resumed documents limit round mentions phase ≡ Refused (Busy caller) = r ∙ busy-resume asked is in cc)
-  stays-next (Resume asked) reply r = there
-  stays-next (Print asked) reply r = there
-  stays-next (Release asked) Released r = changed asked let_go (λ t. refl) (λ is. let refused : Released ≡ Refused (Busy caller) = r ∙ ap reply_release (busy asked is) in cc)
-  stays-next (Release asked) reply r = there
-  stays-next Settle reply r = there
+  stays-next : (command : Command) (reply : Reply) → Answered heads o other command reply → Stays (effect_of heads o other command reply)
+  stays-next (AddDoc asked body) (Added documents) a = there
+  stays-next (AddDoc asked body) reply a = there
+  stays-next (OpenSession asked grammar limit) (Opened documents shown) a = session-before name o.sessions (opened asked documents limit other (head_of grammar heads)) s there
+  stays-next (OpenSession asked grammar limit) reply a = there
+  stays-next (Step asked) (Stepped round added phase) a = changed asked (stepped o.docs) (λ t. refl) (not-held asked a.holding)
+  stays-next (Step asked) reply a = there
+  stays-next (Resume asked) (Resumed documents limit round mentions phase) a = changed asked (taken_by other) (λ t. refl) (not-free asked a)
+  stays-next (Resume asked) reply a = there
+  stays-next (Print asked) reply a = there
+  stays-next (Release asked) Released a = changed asked let_go (λ t. refl) (not-held asked a)
+  stays-next (Release asked) reply a = there
+  stays-next Settle reply a = there
 
 module _ (start : OneThread) (heads : List Head) (caller : ℕ) (name : List ℕ) (s : SessionState) (holds : s.holder ≡ Some caller) where
   stays-from : (seen es : List Entry) → session_of name (state_after start heads seen).sessions ≡ Some s → Each (λ e. e.caller ≢ caller) es → Each (λ p. IsNext start heads p.0 p.1) (points_after seen es)
       → session_of name (state_after start heads (seen ++ es)).sessions ≡ Some s
   stays-from seen [] there others legal = rw (append-nil seen) there
   stays-from seen (e ∷ es) there others legal =
-      let next = stays-next heads (state_after start heads seen) caller e.caller name s others.0 there holds e.command e.reply legal.0.replies in
+      let next = stays-next heads (state_after start heads seen) caller e.caller name s others.0 there holds e.command e.reply (answered heads (state_after start heads seen) e.caller e.command e.reply legal.0.replies) in
       let here : session_of name (state_after start heads (seen ++ e ∷ [])).sessions ≡ Some s = rw (state_after-snoc start heads seen e) next in
       rw (append_assoc seen (e ∷ []) es) at (stays-from (seen ++ e ∷ []) es here others.1 legal.1)
 

@@ -26,9 +26,6 @@ Begins-none [] = refl
 Begins-none (One command ∷ orders) = inl refl
 Begins-none (Run s ∷ orders) = inl tt
 
-pub Begins-going : (s : List ℕ) (orders : List Order) (es : List Entry) → IsGoing s es → Begins (Run s ∷ orders) es
-Begins-going s orders es h = inl h
-
 more-of : {First : List Entry → Entry → Type 0} {P Q : List Entry → Type 0} (es fs : List Entry) → ((rest : List Entry) → P rest → Q (rest ++ fs)) → Begun First P es → Begun First Q (es ++ fs)
 more-of es fs f h = record { going = h.going; last = h.last; more = h.more ++ fs; es_are = ap (λ l. l ++ fs) h.es_are ∙ append_assoc h.going (h.last ∷ h.more) fs; first = h.first; then_rest = f h.more h.then_rest }
 
