@@ -3,6 +3,7 @@ pub mod Answers
 pub mod Callers
 pub mod Climbs
 pub mod Frames
+pub mod Once
 pub mod Openings
 pub mod Orders
 pub mod Prints

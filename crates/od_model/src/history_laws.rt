@@ -3,18 +3,24 @@
 //! A law is what a function here ensures; the function itself does nothing.
 ghost use Rattle.od_session.specs.Parts.{nothing};
 ghost use Rattle.od_model.specs.Object.Sound.{IsSound};
-ghost use Rattle.od_model.specs.History.Laws.{EveryCommandIsAnswered, OneAnswer, OneEffect, FollowingBegins, FrontsBegin, NothingFollows, SoundnessIsKept, PrintsShowRounds, DocumentsGrow, HeldSessionsStay, NextRoundsStay, HeldAnswersStay, EqualRoundsShowSame, FinishedPrintsAgree, LaterPrintsGoOn};
+ghost use Rattle.od_model.specs.History.Laws.{EveryCommandIsAnswered, OneSegmentSettles, OneAnswer, OneEffect, CommandsDecide, FollowingBegins, FrontsBegin, NothingFollows, SoundnessIsKept, PrintsShowRounds, DocumentsGrow, HeldSessionsStay, NextRoundsStay, HeldAnswersStay, OneOpening, EqualRoundsShowSame, FinishedPrintsAgree, LaterPrintsGoOn};
 
-/// The object answers every command of every caller: no legal history is stuck. `Settle` is answered too: by one
-/// segment of all sentences at least, and by none where no sentence is committed.
+/// The object answers every command of every caller, so no legal history is stuck. To `Settle` one segment with all
+/// committed sentences is an answer, or no segment where there is no sentence.
 pub fn every_command_is_answered()
-    ensures { EveryCommandIsAnswered }
+    ensures answer { EveryCommandIsAnswered }
+    ensures settle { OneSegmentSettles }
 {}
 
 /// The object has one answer to a command, but to `Settle`, and all its answers to a command have one effect.
 pub fn one_answer_only()
     ensures reply { OneAnswer }
     ensures effect { OneEffect }
+{}
+
+/// The commands of a legal history, with their callers and in their order, decide the object that it leads to.
+pub fn commands_decide_the_object()
+    ensures { CommandsDecide }
 {}
 
 /// Entries that unfold orders are the beginning of an unfolding, and so is each front of them.
@@ -57,6 +63,11 @@ pub fn held_sessions_are_untouched()
     ensures session { HeldSessionsStay }
     ensures round { NextRoundsStay }
     ensures answers { HeldAnswersStay }
+{}
+
+/// In a legal history the session of a name was opened in one way: by one entry, or at the start.
+pub fn a_session_is_opened_once()
+    ensures { OneOpening }
 {}
 
 /// Two prints of sessions that were opened alike, with one grammar over the same documents and with one limit, in one

@@ -1,5 +1,5 @@
 -- Laws of histories: of answers, of orders, of soundness, of what others' entries leave alone, and of prints of sessions that were opened alike.
-use Rattle.std.specs.Prelude.{◌≡◌, ◌≢◌, ℕ, ◌≤◌, List, [], ◌++◌, Some}
+use Rattle.std.specs.Prelude.{◌≡◌, ◌≢◌, ℕ, zero, suc, ◌≤◌, List, [], ◌∷◌, ◌++◌, map, Some}
 use Rattle.od_document.specs.declared.doc.Doc.{Doc}
 use Rattle.od_pattern.specs.declared.grammar.Head.{Head}
 use Rattle.od_extraction.specs.declared.mention.Mention.{Mention}
@@ -12,20 +12,29 @@ use Rattle.od_command.specs.declared.history.Entry.{Entry}
 use Rattle.od_order.specs.declared.script.Order.{Order}
 use Rattle.od_session.specs.declared.object.SessionState.{SessionState}
 use Rattle.od_session.specs.declared.object.OneThread.{OneThread}
-use Rattle.od_session.specs.Parts.{IsAccepted, session_of, round_at}
+use Rattle.od_session.specs.Parts.{IsAccepted, sentence_count, session_of, round_at}
 use Rattle.od_text.specs.Lists.{Each}
 use Rattle.od_model.specs.Object.Effects.{effect_of}
-use Rattle.od_model.specs.Object.Replies.{Replies}
+use Rattle.od_model.specs.Object.Replies.{Settles, Replies}
 use Rattle.od_model.specs.Object.Sound.{IsSound}
 use Rattle.od_model.specs.History.Legal.{state_after, Legal}
 use Rattle.od_model.specs.History.Orders.{Follows, Begins}
-use Rattle.od_model.specs.History.Prints.{ShowsRounds, PrintsRounds}
+use Rattle.od_model.specs.History.Prints.{Opening, IsOpened, ShowsRounds, PrintsRounds}
 
 -- ## Answers
 
 -- the object answers every command of every caller
 abbrev pub EveryCommandIsAnswered : Type 0
 EveryCommandIsAnswered = (heads : List Head) (o : OneThread) (caller : ℕ) (command : Command) → (reply : Reply) × Replies heads o caller command reply
+
+-- one segment with so many sentences, or none
+abbrev pub one_segment : ℕ → List ℕ
+one_segment zero = []
+one_segment (suc count) = suc count ∷ []
+
+-- one segment with all committed sentences settles the object
+abbrev pub OneSegmentSettles : Type 0
+OneSegmentSettles = (o : OneThread) → Settles o (one_segment (sentence_count o.docs))
 
 -- it has one answer, but to `Settle`
 abbrev pub OneAnswer : Type 0
@@ -39,6 +48,16 @@ OneEffect =
     (heads : List Head) (o : OneThread) (caller : ℕ) (command : Command) (one other : Reply)
     → Replies heads o caller command one → Replies heads o caller command other
     → effect_of heads o caller command one ≡ effect_of heads o caller command other
+
+-- who asked for what
+abbrev pub asked : Entry → ℕ × Command
+asked e = (e.caller, e.command)
+
+-- the commands of a legal history, with their callers, decide the object that it leads to
+abbrev pub CommandsDecide : Type 0
+CommandsDecide =
+    (start : OneThread) (heads : List Head) (es fs : List Entry) → Legal start heads es → Legal start heads fs
+    → map asked es ≡ map asked fs → state_after start heads es ≡ state_after start heads fs
 
 -- ## Orders
 
@@ -111,6 +130,12 @@ HeldAnswersStay =
     → Replies heads (state_after start heads es) caller command reply → Replies heads (state_after start heads (es ++ fs)) caller command reply
 
 -- ## Prints of sessions that were opened alike
+
+-- in a legal history a session of a name was opened in one way
+abbrev pub OneOpening : Type 0
+OneOpening =
+    (start : OneThread) (heads : List Head) (es : List Entry) (name : List ℕ) (one other : Opening) → Legal start heads es
+    → IsOpened start heads es name one → IsOpened start heads es name other → one ≡ other
 
 -- a print: behind which entries it stands, what it says and its lines, which show the rounds
 pub record Shown : Type 0 where
