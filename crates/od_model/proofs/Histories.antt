@@ -1,3 +1,4 @@
+pub mod Again
 pub mod Alike
 pub mod Answers
 pub mod Callers

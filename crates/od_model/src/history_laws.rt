@@ -3,7 +3,7 @@
 //! A law is what a function here ensures; the function itself does nothing.
 ghost use Rattle.od_session.specs.Parts.{nothing};
 ghost use Rattle.od_model.specs.Object.Sound.{IsSound};
-ghost use Rattle.od_model.specs.History.Laws.{EveryCommandIsAnswered, OneSegmentSettles, OneAnswer, OneEffect, CommandsDecide, FollowingBegins, FrontsBegin, NothingFollows, SoundnessIsKept, PrintsShowRounds, DocumentsGrow, HeldSessionsStay, NextRoundsStay, HeldAnswersStay, OneOpening, EqualRoundsShowSame, FinishedPrintsAgree, LaterPrintsGoOn};
+ghost use Rattle.od_model.specs.History.Laws.{EveryCommandIsAnswered, OneSegmentSettles, OneAnswer, OneEffect, CommandsDecide, FollowingBegins, FrontsBegin, NothingFollows, SoundnessIsKept, PrintsShowRounds, DocumentsGrow, HeldSessionsStay, NextRoundsStay, HeldAnswersStay, SessionsWereOpened, OneOpening, AlikeInOneHistory, AlikeAcrossStarts, EqualRoundsShowSame, FinishedPrintsAgree, LaterPrintsGoOn};
 
 /// The object answers every command of every caller, so no legal history is stuck. To `Settle` one segment with all
 /// committed sentences is an answer, or no segment where there is no sentence.
@@ -65,21 +65,29 @@ pub fn held_sessions_are_untouched()
     ensures answers { HeldAnswersStay }
 {}
 
-/// In a legal history the session of a name was opened in one way: by one entry, or at the start.
+/// Each session that a legal history leads to was opened by an entry of it or was there at the start, and in one way.
 pub fn a_session_is_opened_once()
-    ensures { OneOpening }
+    ensures opened { SessionsWereOpened }
+    ensures once { OneOpening }
 {}
 
-/// Two prints of sessions that were opened alike, with one grammar over the same documents and with one limit, in one
-/// history or in two, show the same when both sessions are finished, and whenever they have as many rounds: the same
-/// mentions, and under one name the same lines. So a session that was resumed prints what it would have printed.
+/// Two prints of the session of one name are alike, their sessions opened with one grammar over the same documents and
+/// with one limit: in one legal history, and also where the second one stands in a history that goes on from what
+/// the first history led to, with all sessions let go, as when a server starts again.
+pub fn prints_of_one_session_are_alike()
+    ensures history { AlikeInOneHistory }
+    ensures starts { AlikeAcrossStarts }
+{}
+
+/// Two prints that are alike show the same when both sessions are finished, and whenever they have as many rounds: the
+/// same mentions, and under one name the same lines. So a session that is resumed prints what it would have printed.
 pub fn finished_prints_are_equal()
     ensures finished { FinishedPrintsAgree }
     ensures rounds { EqualRoundsShowSame }
 {}
 
-/// After more rounds the print of a session that was opened alike goes on from the earlier print: its mentions
-/// and its lines begin with those.
+/// Of two prints that are alike the one after more rounds goes on from the other: its mentions begin with those, and
+/// under one name so do its lines.
 pub fn later_prints_go_on()
     ensures { LaterPrintsGoOn }
 {}

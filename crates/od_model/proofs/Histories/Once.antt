@@ -88,6 +88,15 @@ in-order (x ∷ before) e since (y ∷ before') e' since' is =
 
 -- ## Two openings
 
+module _ (start : OneThread) (heads : List Head) (seen : List Entry) (name : List ℕ) where
+  -- behind its opening it is there
+  there-behind : (opening : Opening) (h : IsOpenedWithin start heads seen name opening) (between : List Entry) → has_session (state_after start heads (h.before ++ h.entry ∷ between)) name ≡ true
+  unfolding state_after
+  there-behind opening h between =
+      let o = state_after start heads h.before in
+      let made : has_session (effect heads o h.entry) name ≡ true = rw (h.command_is, h.reply_is) (made-by name heads o h.entry.caller h.grammar opening.limit (length opening.docs) opening.limit h.head h.head_is) in
+      rw (state_after-append start heads h.before (h.entry ∷ between)) (stays-after name (effect heads o h.entry) heads between made)
+
 module _ (start : OneThread) (heads : List Head) (seen : List Entry) (name : List ℕ) (legal : Legal start heads seen) where
   -- before it is opened there is none
   none-before : (opening : Opening) (h : IsOpenedWithin start heads seen name opening) → has_session (state_after start heads h.before) name ≡ false
@@ -98,17 +107,9 @@ module _ (start : OneThread) (heads : List Head) (seen : List Entry) (name : Lis
       let tells = answered heads o h.entry.caller (OpenSession name h.grammar opening.limit) (Opened (length opening.docs) opening.limit) says in
       tells.new
 
-  -- behind its opening it is there
-  there-behind : (opening : Opening) (h : IsOpenedWithin start heads seen name opening) (between : List Entry) → has_session (state_after start heads (h.before ++ h.entry ∷ between)) name ≡ true
-  unfolding state_after
-  there-behind opening h between =
-      let o = state_after start heads h.before in
-      let made : has_session (effect heads o h.entry) name ≡ true = rw (h.command_is, h.reply_is) (made-by name heads o h.entry.caller h.grammar opening.limit (length opening.docs) opening.limit h.head h.head_is) in
-      rw (state_after-append start heads h.before (h.entry ∷ between)) (stays-after name (effect heads o h.entry) heads between made)
-
   not-again : (one other : Opening) (h : IsOpenedWithin start heads seen name one) (k : IsOpenedWithin start heads seen name other) (between : List Entry) → k.before ≡ h.before ++ h.entry ∷ between → ⊥
   not-again one other h k between is =
-      let there : has_session (state_after start heads k.before) name ≡ true = rw is (there-behind one h between) in
+      let there : has_session (state_after start heads k.before) name ≡ true = rw is (there-behind start heads seen name one h between) in
       let none = none-before other k in
       absurd cc
 
@@ -150,6 +151,11 @@ module _ (start : OneThread) (heads : List Head) (seen : List Entry) (name : Lis
   opened-once one other (inl h) (inr k) = absurd (not-there one other h k)
   opened-once one other (inr h) (inl k) = absurd (not-there other one k h)
   opened-once one other (inr h) (inr k) = before-once one other h k
+
+-- a session that was opened is there
+pub opened-there : (start : OneThread) (heads : List Head) (es : List Entry) (name : List ℕ) (opening : Opening) → IsOpened start heads es name opening → has_session (state_after start heads es) name ≡ true
+opened-there start heads es name opening (inl h) = rw h.seen_is (there-behind start heads es name opening h h.since)
+opened-there start heads es name opening (inr h) = stays-after name start heads es (found-any name start.sessions h.session h.is)
 
 -- in a legal history a session of a name is opened once
 pub one-opening : (start : OneThread) (heads : List Head) (es : List Entry) (name : List ℕ) (one other : Opening) → Legal start heads es → IsOpened start heads es name one → IsOpened start heads es name other → one ≡ other

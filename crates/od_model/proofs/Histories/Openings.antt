@@ -19,6 +19,7 @@ use Rattle.od_session.specs.Parts.{IsAccepted, is_named, Distinct, session_of, h
 use Rattle.od_model.specs.Object.Effects.{doc_made, change, stepped, taken_by, let_go, effect_of}
 use Rattle.od_model.specs.History.Legal.{state_after, IsNext, Legal}
 use Rattle.od_model.specs.History.Prints.{Opening, IsOpened}
+use Rattle.od_model.specs.History.Laws.{opening_of}
 use Rattle.od_text.proofs.Lists.{Each-append, Each-weaker, Each-both}
 use Rattle.od_model.proofs.Objects.Answered.{IsOpening, Answered, answered}
 use Rattle.od_model.proofs.Objects.Names.{Each-changed}
@@ -26,10 +27,6 @@ use Rattle.od_model.proofs.Objects.Places.{name-itself}
 use Rattle.od_model.proofs.Histories.Steps.{state_after-start, state_after-snoc}
 use Rattle.od_model.specs.Object.Sound.{IsSound, IsSoundSession}
 use Rattle.od_model.proofs.Histories.Sound.{keeps}
-
--- how a session was opened, while these documents are committed
-abbrev pub opening_of : SessionState → List Doc → Opening
-opening_of s docs = record { kind = s.kind; text = s.text; docs = take s.documents docs; limit = s.limit }
 
 -- ## The sessions of the start
 
@@ -64,13 +61,13 @@ module _ (start : OneThread) (heads : List Head) where
   abbrev pub IsOpenedSession : List Entry → List Doc → SessionState → Type 0
   IsOpenedSession seen docs s = IsOpened start heads seen s.name (opening_of s docs)
 
-  -- what was opened is so after one entry more
-  opened-later : (seen : List Entry) (e : Entry) (name : List ℕ) (opening : Opening) → IsOpened start heads seen name opening → IsOpened start heads (seen ++ e ∷ []) name opening
-  opened-later seen e name opening (inl h) = inl (record {
+  -- what was opened is so after further entries
+  pub opened-later : (seen more : List Entry) (name : List ℕ) (opening : Opening) → IsOpened start heads seen name opening → IsOpened start heads (seen ++ more) name opening
+  opened-later seen more name opening (inl h) = inl (record {
     before = h.before;
     entry = h.entry;
-    since = h.since ++ e ∷ [];
-    seen_is = ap (λ l. l ++ e ∷ []) h.seen_is ∙ append_assoc h.before (h.entry ∷ h.since) (e ∷ []);
+    since = h.since ++ more;
+    seen_is = ap (λ l. l ++ more) h.seen_is ∙ append_assoc h.before (h.entry ∷ h.since) more;
     grammar = h.grammar;
     head = h.head;
     head_is = h.head_is;
@@ -78,7 +75,7 @@ module _ (start : OneThread) (heads : List Head) where
     reply_is = h.reply_is;
     opening_is = h.opening_is;
   })
-  opened-later seen e name opening (inr h) = inr h
+  opened-later seen more name opening (inr h) = inr h
 
   -- one more document changes nothing of a session before
   opened-more : (seen : List Entry) (docs : List Doc) (made : Option Doc) (s : SessionState) → IsSoundSession docs s → IsOpenedSession seen docs s → IsOpenedSession seen (docs ++ doc_made made) s
@@ -91,7 +88,7 @@ module _ (start : OneThread) (heads : List Head) where
     AreOpened after = Each (IsOpenedSession (seen ++ e ∷ []) after.docs) after.sessions
 
     all-later : AreOpened o
-    all-later = Each-weaker (IsOpenedSession seen o.docs) (IsOpenedSession (seen ++ e ∷ []) o.docs) (λ s k. opened-later seen e s.name (opening_of s o.docs) k) o.sessions h
+    all-later = Each-weaker (IsOpenedSession seen o.docs) (IsOpenedSession (seen ++ e ∷ []) o.docs) (λ s k. opened-later seen (e ∷ []) s.name (opening_of s o.docs) k) o.sessions h
 
     one-made : (made : Option Doc) → AreOpened (record o { docs = o.docs ++ doc_made made })
     one-made made = Each-both (IsSoundSession o.docs) (IsOpenedSession (seen ++ e ∷ []) o.docs) (IsOpenedSession (seen ++ e ∷ []) (o.docs ++ doc_made made)) (λ s. opened-more (seen ++ e ∷ []) o.docs made s) o.sessions sound.sound all-later

@@ -13,12 +13,13 @@ use Rattle.od_session.specs.Parts.{IsAccepted, is_named, session_of, phase_with}
 use Rattle.od_model.specs.Object.Replies.{Replies}
 use Rattle.od_model.specs.History.Legal.{state_after, Legal}
 use Rattle.od_model.specs.History.Lines.{lines_of_session}
+use Rattle.od_model.specs.History.Laws.{opening_of}
 use Rattle.od_model.specs.History.Prints.{IsOpened, ShowsRounds, PrintsRounds}
 use Rattle.od_text.proofs.Lists.{Each-find, find-passes}
 use Rattle.od_model.proofs.Objects.Answered.{IsPrinting, answered}
 use Rattle.od_model.proofs.Objects.Names.{same-name}
 use Rattle.od_matching.proofs.Rounds.Lying.{rounds-lie}
-use Rattle.od_model.proofs.Histories.Openings.{opening_of, IsOpenedSession, AreOpenedAfter, opened-after}
+use Rattle.od_model.proofs.Histories.Openings.{IsOpenedSession, AreOpenedAfter, opened-after}
 use Rattle.od_model.proofs.Histories.Steps.{Legal-front, Legal-at}
 use Rattle.od_model.specs.Object.Sound.{IsSound, IsSoundSession}
 use Rattle.od_model.proofs.Histories.Sound.{sound-after, grammar-is}

@@ -1,5 +1,5 @@
 -- Laws of histories: of answers, of orders, of soundness, of what others' entries leave alone, and of prints of sessions that were opened alike.
-use Rattle.std.specs.Prelude.{◌≡◌, ◌≢◌, ℕ, zero, suc, ◌≤◌, List, [], ◌∷◌, ◌++◌, map, Some}
+use Rattle.std.specs.Prelude.{◌≡◌, ◌≢◌, ℕ, zero, suc, ◌≤◌, List, [], ◌∷◌, ◌++◌, map, take, Some}
 use Rattle.od_document.specs.declared.doc.Doc.{Doc}
 use Rattle.od_pattern.specs.declared.grammar.Head.{Head}
 use Rattle.od_extraction.specs.declared.mention.Mention.{Mention}
@@ -14,7 +14,7 @@ use Rattle.od_session.specs.declared.object.SessionState.{SessionState}
 use Rattle.od_session.specs.declared.object.OneThread.{OneThread}
 use Rattle.od_session.specs.Parts.{IsAccepted, sentence_count, session_of, round_at}
 use Rattle.od_text.specs.Lists.{Each}
-use Rattle.od_model.specs.Object.Effects.{effect_of}
+use Rattle.od_model.specs.Object.Effects.{effect_of, let_go}
 use Rattle.od_model.specs.Object.Replies.{Settles, Replies}
 use Rattle.od_model.specs.Object.Sound.{IsSound}
 use Rattle.od_model.specs.History.Legal.{state_after, Legal}
@@ -129,13 +129,25 @@ HeldAnswersStay =
     → IsSound (state_after start heads es) → IsHeldThrough start heads es fs caller name s → IsOn name command
     → Replies heads (state_after start heads es) caller command reply → Replies heads (state_after start heads (es ++ fs)) caller command reply
 
--- ## Prints of sessions that were opened alike
+-- ## Openings
+
+-- how a session was opened, while these documents are committed
+abbrev pub opening_of : SessionState → List Doc → Opening
+opening_of s docs = record { kind = s.kind; text = s.text; docs = take s.documents docs; limit = s.limit }
+
+-- an entry opened each session that is there, or it was there at the start
+abbrev pub SessionsWereOpened : Type 0
+SessionsWereOpened =
+    (start : OneThread) (heads : List Head) (es : List Entry) → IsSound start → Each IsAccepted heads → Legal start heads es
+    → Each (λ s. IsOpened start heads es s.name (opening_of s (state_after start heads es).docs)) (state_after start heads es).sessions
 
 -- in a legal history a session of a name was opened in one way
 abbrev pub OneOpening : Type 0
 OneOpening =
     (start : OneThread) (heads : List Head) (es : List Entry) (name : List ℕ) (one other : Opening) → Legal start heads es
     → IsOpened start heads es name one → IsOpened start heads es name other → one ≡ other
+
+-- ## Prints of sessions that were opened alike
 
 -- a print: behind which entries it stands, what it says and its lines, which show the rounds
 pub record Shown : Type 0 where
@@ -152,6 +164,37 @@ pub record Shown : Type 0 where
 -- their sessions were opened with one grammar, over the same documents, with one limit; their histories may differ
 abbrev pub AreAlike : Shown → Shown → Type 0
 AreAlike one other = one.shows.opening ≡ other.shows.opening
+
+-- prints of the session of one name in one legal history, the second one later
+pub record AreInOneHistory (one other : Shown) : Type 0 where
+  pub start : one.start ≡ other.start
+  pub heads : one.heads ≡ other.heads
+  pub between : List Entry
+  pub seen : other.seen ≡ one.seen ++ between
+  pub legal : Legal other.start other.heads other.seen
+  pub name : one.name ≡ other.name
+
+-- they are alike
+abbrev pub AlikeInOneHistory : Type 0
+AlikeInOneHistory = (one other : Shown) → AreInOneHistory one other → AreAlike one other
+
+-- the object with every session let go, as a new start finds it
+abbrev pub let_all_go : OneThread → OneThread
+let_all_go o = record o { sessions = map let_go o.sessions }
+
+-- prints of the session of one name, the second one after a new start where the history of the first one has ended
+pub record AreAcrossStarts (one other : Shown) : Type 0 where
+  pub sound : IsSound one.start
+  pub accepted : Each IsAccepted one.heads
+  pub more : List Entry
+  pub legal : Legal one.start one.heads (one.seen ++ more)
+  pub again : other.start ≡ let_all_go (state_after one.start one.heads (one.seen ++ more))
+  pub legal_again : Legal other.start other.heads other.seen
+  pub name : one.name ≡ other.name
+
+-- they are alike too
+abbrev pub AlikeAcrossStarts : Type 0
+AlikeAcrossStarts = (one other : Shown) → AreAcrossStarts one other → AreAlike one other
 
 -- the prints show the same: as many rounds, the same mentions, and under one name the same lines
 pub record ShowSame (one other : Shown) : Type 0 where
