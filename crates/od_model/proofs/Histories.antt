@@ -3,6 +3,7 @@ pub mod Alike
 pub mod Answers
 pub mod Callers
 pub mod Climbs
+pub mod Examples
 pub mod Frames
 pub mod Once
 pub mod Openings

@@ -3,7 +3,7 @@
 //! A law is what a function here ensures; the function itself does nothing.
 ghost use Rattle.od_session.specs.Parts.{nothing};
 ghost use Rattle.od_model.specs.Object.Sound.{IsSound};
-ghost use Rattle.od_model.specs.History.Laws.{EveryCommandIsAnswered, OneSegmentSettles, OneAnswer, OneEffect, CommandsDecide, FollowingBegins, FrontsBegin, NothingFollows, SoundnessIsKept, PrintsShowRounds, DocumentsGrow, HeldSessionsStay, NextRoundsStay, HeldAnswersStay, SessionsWereOpened, OneOpening, AlikeInOneHistory, AlikeAcrossStarts, EqualRoundsShowSame, FinishedPrintsAgree, LaterPrintsGoOn};
+ghost use Rattle.od_model.specs.History.Laws.{EveryCommandIsAnswered, OneSegmentSettles, OneAnswer, OneEffect, CommandsDecide, FollowingBegins, FrontsBegin, NothingFollows, SoundnessIsKept, PrintsShowRounds, DocumentsGrow, HeldSessionsStay, NextRoundsStay, HeldAnswersStay, SessionsWereOpened, OneOpening, AlikeInOneHistory, AlikeAcrossStarts, EqualRoundsShowSame, FinishedPrintsAgree, LaterPrintsGoOn, ResumedPrintsAgree};
 
 /// The object answers every command of every caller, so no legal history is stuck. To `Settle` one segment with all
 /// committed sentences is an answer, or no segment where there is no sentence.
@@ -90,4 +90,9 @@ pub fn finished_prints_are_equal()
 /// under one name so do its lines.
 pub fn later_prints_go_on()
     ensures { LaterPrintsGoOn }
+{}
+
+/// A session that is finished prints the same lines before a new start and after it.
+pub fn resumed_sessions_print_the_same()
+    ensures { ResumedPrintsAgree }
 {}

@@ -1,13 +1,12 @@
 -- Prints of the session of one name are alike, in one history and across a new start.
-use Rattle.std.proofs.Common.{◌≡◌, inl, inr, ℕ, List, [], ◌∷◌, ◌++◌, map, Some, Option, Bool, true, false, cond, ◌||◌, refl, sym, ap, ◌∙◌, subst}
+use Rattle.std.proofs.Common.{◌≡◌, inr, ℕ, List, [], ◌∷◌, ◌++◌, map, Some, Bool, true, false, cond, ◌||◌, refl, sym, ap, ◌∙◌, subst}
 use Rattle.std.specs.Prelude.{option_map}
 use Rattle.std.specs.List.{list_any}
-use Rattle.od_document.specs.declared.doc.Doc.{Doc}
 use Rattle.od_pattern.specs.declared.grammar.Head.{Head}
 use Rattle.od_command.specs.declared.history.Entry.{Entry}
 use Rattle.od_session.specs.declared.object.SessionState.{SessionState}
 use Rattle.od_session.specs.declared.object.OneThread.{OneThread}
-use Rattle.od_session.specs.Parts.{IsAccepted, is_named, session_of, has_session}
+use Rattle.od_session.specs.Parts.{IsAccepted, is_named, session_of}
 use Rattle.od_text.specs.Lists.{Each}
 use Rattle.od_text.proofs.Lists.{Each-find, find-passes, find-map}
 use Rattle.od_model.specs.Object.Effects.{let_go}
@@ -16,7 +15,6 @@ use Rattle.od_model.specs.History.Legal.{state_after, Legal}
 use Rattle.od_model.specs.History.Prints.{Opening, IsOpened}
 use Rattle.od_model.specs.History.Laws.{Shown, AreAlike, AreInOneHistory, AreAcrossStarts, let_all_go, opening_of}
 use Rattle.od_model.proofs.Objects.Names.{same-name}
-use Rattle.od_model.proofs.Histories.Steps.{Legal-front}
 use Rattle.od_model.proofs.Histories.Openings.{opened-later, opened-after, IsOpenedSession}
 use Rattle.od_model.proofs.Histories.Once.{one-opening, opened-there}
 

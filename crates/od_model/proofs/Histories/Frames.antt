@@ -1,7 +1,6 @@
 -- What entries leave alone: the documents before, the sessions that other callers hold, and their next rounds.
 use Rattle.std.proofs.Common.{◌≡◌, ◌≢◌, ℕ, ◌+◌, ◌≤◌, List, [], ◌∷◌, ◌++◌, length, Option, Some, None, Ok, Err, Bool, true, false, cond, refl, sym, ap, ◌∙◌, subst, append-nil, append_assoc, if◌then◌else◌, eqb, bytes_eq}
 use Rattle.std.specs.Option.{option_or}
-use Rattle.std.proofs.lemmas.Bool.{eqb-true}
 use Rattle.std.proofs.lemmas.List.{take-append-le}
 use Rattle.std.proofs.lemmas.List.Folds.{find-append}
 use Rattle.od_document.specs.declared.doc.Doc.{Doc}
@@ -13,7 +12,7 @@ use Rattle.od_matching.specs.Rounds.Round.{round}
 use Rattle.od_command.specs.declared.history.Command.{Command}
 use Rattle.od_command.specs.declared.history.Command.TheVariants.{AddDoc, OpenSession, Step, Resume, Print, Release, Settle}
 use Rattle.od_command.specs.declared.history.Reply.{Reply}
-use Rattle.od_command.specs.declared.history.Reply.TheVariants.{Added, Opened, Stepped, Resumed, Released, Refused}
+use Rattle.od_command.specs.declared.history.Reply.TheVariants.{Added, Opened, Stepped, Resumed, Released}
 use Rattle.od_command.specs.declared.history.Refusal.TheVariants.{Busy}
 use Rattle.od_command.specs.declared.history.Entry.{Entry}
 use Rattle.od_session.specs.declared.object.SessionState.{SessionState}
@@ -22,7 +21,7 @@ use Rattle.od_session.specs.Parts.{is_named, session_of, head_of, grammar_at, ph
 use Rattle.od_document.specs.Building.{document_of}
 use Rattle.od_text.specs.Lists.{Each, points_after}
 use Rattle.od_text.proofs.Lists.{EachPoint-rest, Each-find}
-use Rattle.od_model.specs.Object.Replies.{reply_round, reply_phase, reply_step, reply_resume, reply_unheld, reply_print, reply_release, held, held_in, held_as, Replies}
+use Rattle.od_model.specs.Object.Replies.{reply_round, reply_phase, reply_step, reply_print, reply_release, held, held_in, held_as, Replies}
 use Rattle.od_model.specs.Object.Effects.{doc_made, change, stepped, taken_by, let_go, opened, effect_of, effect}
 use Rattle.od_model.specs.Object.Sound.{IsSound, IsSoundSession}
 use Rattle.od_model.specs.History.Legal.{state_after, IsNext}

@@ -1,8 +1,7 @@
 -- A session of a name is opened once.
-use Rattle.std.proofs.Common.{◌≡◌, ◌⊎◌, inl, inr, ℕ, List, [], ◌∷◌, ◌++◌, length, take, find, Option, Some, None, Bool, true, false, cond, ◌||◌, refl, sym, ap, ◌∙◌, subst, append_assoc}
+use Rattle.std.proofs.Common.{◌≡◌, ◌⊎◌, inl, inr, ℕ, List, [], ◌∷◌, ◌++◌, length, take, Some, Bool, true, false, cond, ◌||◌, refl, sym, ap, ◌∙◌, subst}
 use Rattle.std.specs.List.{list_any}
 use Rattle.std.proofs.lemmas.List.Folds.{list_any-append}
-use Rattle.od_document.specs.declared.doc.Doc.{Doc}
 use Rattle.od_pattern.specs.declared.grammar.Head.{Head}
 use Rattle.od_command.specs.declared.history.Command.{Command}
 use Rattle.od_command.specs.declared.history.Command.TheVariants.{AddDoc, OpenSession, Step, Resume, Print, Release, Settle}
@@ -14,9 +13,9 @@ use Rattle.od_session.specs.declared.object.OneThread.{OneThread}
 use Rattle.od_session.specs.Parts.{is_named, has_session, session_of, head_of}
 use Rattle.od_model.specs.Object.Replies.{Replies}
 use Rattle.od_model.specs.Object.Effects.{change, stepped, taken_by, let_go, opened, effect_of, effect}
-use Rattle.od_model.specs.History.Legal.{state_after, IsNext, Legal}
+use Rattle.od_model.specs.History.Legal.{state_after, Legal}
 use Rattle.od_model.specs.History.Prints.{Opening, IsOpenedWithin, IsOpenedBefore, IsOpened}
-use Rattle.od_model.proofs.Objects.Answered.{IsOpening, answered}
+use Rattle.od_model.proofs.Objects.Answered.{answered}
 use Rattle.od_model.proofs.Objects.Names.{or_from_left, or_from_right, any-change}
 use Rattle.od_model.proofs.Objects.Places.{name-itself}
 use Rattle.od_model.proofs.Histories.Steps.{state_after-append, Legal-at}

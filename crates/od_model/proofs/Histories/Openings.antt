@@ -1,5 +1,5 @@
 -- Along a legal history each session is one that an entry opened, or that was there at the start.
-use Rattle.std.proofs.Common.{◌≡◌, inl, inr, ℕ, List, [], ◌∷◌, ◌++◌, length, take, Option, Some, None, Bool, true, false, cond, ◌||◌, nat_lt, nat_le, refl, ap, ◌∙◌, append-nil, append_assoc, if◌then◌else◌}
+use Rattle.std.proofs.Common.{◌≡◌, inl, inr, ℕ, List, [], ◌∷◌, ◌++◌, length, take, Option, Some, None, Bool, true, false, cond, ◌||◌, refl, ap, ◌∙◌, append-nil, append_assoc}
 use Rattle.std.specs.List.{list_any}
 use Rattle.std.proofs.lemmas.List.{take-append-le}
 use Rattle.std.proofs.Math.Seq.{take-length}
@@ -14,8 +14,7 @@ use Rattle.od_session.specs.declared.object.SessionState.{SessionState}
 use Rattle.od_session.specs.declared.object.OneThread.{OneThread}
 use Rattle.od_document.specs.Building.{document_of}
 use Rattle.od_text.specs.Lists.{Each, points_after}
-use Rattle.od_session.specs.declared.object.TheConstants.{SESSIONS, SESSION_ROUNDS}
-use Rattle.od_session.specs.Parts.{IsAccepted, is_named, Distinct, session_of, has_session, head_of}
+use Rattle.od_session.specs.Parts.{IsAccepted, is_named, Distinct, session_of, head_of}
 use Rattle.od_model.specs.Object.Effects.{doc_made, change, stepped, taken_by, let_go, effect_of}
 use Rattle.od_model.specs.History.Legal.{state_after, IsNext, Legal}
 use Rattle.od_model.specs.History.Prints.{Opening, IsOpened}

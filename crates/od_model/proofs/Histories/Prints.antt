@@ -1,15 +1,13 @@
 -- A print of a legal history shows the rounds.
-use Rattle.std.proofs.Common.{◌≡◌, ℕ, List, ◌∷◌, ◌++◌, length, take, Option, Some, None, Ok, Err, Bool, true, false, if◌then◌else◌, refl, ap, eqb, subst}
+use Rattle.std.proofs.Common.{◌≡◌, ℕ, List, ◌∷◌, ◌++◌, length, take, ap, subst}
 use Rattle.od_pattern.specs.declared.grammar.Head.{Head}
 use Rattle.od_extraction.specs.declared.phase.Phase.{Phase}
 use Rattle.od_command.specs.declared.history.Command.TheVariants.{Print}
 use Rattle.od_command.specs.declared.history.Reply.TheVariants.{Printed}
 use Rattle.od_command.specs.declared.history.Entry.{Entry}
-use Rattle.od_session.specs.declared.object.SessionState.{SessionState}
 use Rattle.od_session.specs.declared.object.OneThread.{OneThread}
 use Rattle.od_text.specs.Lists.{Each}
-use Rattle.od_extraction.specs.Joined.{joined}
-use Rattle.od_session.specs.Parts.{IsAccepted, is_named, session_of, phase_with}
+use Rattle.od_session.specs.Parts.{IsAccepted, is_named, session_of}
 use Rattle.od_model.specs.Object.Replies.{Replies}
 use Rattle.od_model.specs.History.Legal.{state_after, Legal}
 use Rattle.od_model.specs.History.Lines.{lines_of_session}

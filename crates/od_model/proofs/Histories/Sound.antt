@@ -1,16 +1,12 @@
 -- Along a legal history the lists of each session are those of the rounds over its documents.
-use Rattle.std.proofs.Common.{◌≡◌, ◌≢◌, ℕ, suc, ◌+◌, List, [], ◌∷◌, ◌++◌, length, take, Option, Some, None, unwrap_or, Result, Ok, Err, Bool, true, false, cond, ◌||◌, ◌&&◌, nat_lt, nat_le, refl, sym, ap, ◌∙◌, subst, append-nil, append_assoc, if◌then◌else◌, arith, eqb, eq-eqb, length-append, bytes_eq, ltb-false}
-use Rattle.std.proofs.lemmas.Bool.{or_parts}
+use Rattle.std.proofs.Common.{◌≡◌, ◌≢◌, ℕ, suc, ◌+◌, List, [], ◌∷◌, ◌++◌, length, take, Option, Some, None, unwrap_or, Bool, true, false, cond, ◌&&◌, nat_le, refl, ap, ◌∙◌, append-nil, append_assoc, arith, eqb, eq-eqb, length-append, bytes_eq, ltb-false}
 use Rattle.std.specs.List.{list_any}
 use Rattle.std.proofs.lemmas.List.{take-append-le}
 use Rattle.od_document.specs.declared.doc.Doc.{Doc}
-use Rattle.od_document.specs.declared.conllu.ConlluFault.{ConlluFault}
 use Rattle.od_pattern.specs.declared.grammar.Head.{Head}
 use Rattle.od_pattern.specs.declared.grammar.Grammar.{Grammar}
 use Rattle.od_extraction.specs.declared.mention.Mention.{Mention}
-use Rattle.od_extraction.specs.declared.mention.RoundResult.{RoundResult}
 use Rattle.od_extraction.specs.declared.mention.RoundResult.TheVariants.{Found}
-use Rattle.od_extraction.specs.declared.mention.RoundResult.TheVariants as outcome
 use Rattle.od_extraction.specs.declared.phase.Phase.{Phase}
 use Rattle.od_extraction.specs.declared.phase.Phase.TheVariants as stage
 use Rattle.od_command.specs.declared.history.Command.{Command}
@@ -22,16 +18,15 @@ use Rattle.od_session.specs.declared.object.SessionState.{SessionState}
 use Rattle.od_session.specs.declared.object.OneThread.{OneThread}
 use Rattle.od_language.specs.Query.{grammar_of}
 use Rattle.od_document.specs.Building.{document_of}
-use Rattle.od_document.specs.Faults.{doc_fault}
 use Rattle.od_text.specs.Lists.{Each, points_after}
 use Rattle.od_matching.specs.Rounds.Round.{round, rounds, one_more, with_found}
 use Rattle.od_extraction.specs.Joined.{joined}
 use Rattle.od_matching.specs.Rounds.Phases.{phase, greatest_first, ends_empty}
-use Rattle.od_session.specs.declared.object.TheConstants.{SESSIONS, SESSION_ROUNDS}
-use Rattle.od_session.specs.Parts.{nothing, IsAccepted, has_doc, is_full, size_of, is_named, session_of, has_session, head_of, is_known, grammar_at, phase_with, round_at}
+use Rattle.od_session.specs.declared.object.TheConstants.{SESSION_ROUNDS}
+use Rattle.od_session.specs.Parts.{nothing, IsAccepted, is_named, grammar_at, phase_with, round_at}
 use Rattle.od_model.specs.Object.Replies.{Replies}
 use Rattle.od_model.specs.Object.Sound.{IsSoundSession, IsSound}
-use Rattle.od_model.specs.Object.Effects.{doc_made, change, found_of, stepped, opened, effect_of}
+use Rattle.od_model.specs.Object.Effects.{doc_made, change, found_of, stepped, effect_of}
 use Rattle.od_model.specs.History.Legal.{state_after, IsNext, Legal}
 use Rattle.od_text.proofs.Lists.{Each-append, Each-weaker, Each-find, EachPoint-snoc}
 use Rattle.od_model.proofs.Objects.Answered.{IsOpening, IsStepping, Answered, answered}

@@ -221,3 +221,7 @@ FinishedPrintsAgree = (one other : Shown) → AreAlike one other → one.state �
 -- after more rounds the print goes on from the earlier one
 abbrev pub LaterPrintsGoOn : Type 0
 LaterPrintsGoOn = (one other : Shown) → AreAlike one other → one.number ≤ other.number → GoesOnFrom one other
+
+-- a session that is finished before a new start and after it prints the same lines
+abbrev pub ResumedPrintsAgree : Type 0
+ResumedPrintsAgree = (one other : Shown) → AreAcrossStarts one other → one.state ≡ Finished → other.state ≡ Finished → one.lines ≡ other.lines
