@@ -3,7 +3,11 @@
 //! A law is what a function here ensures; the function itself does nothing.
 ghost use Rattle.od_session.specs.Parts.{nothing};
 ghost use Rattle.od_model.specs.Object.Sound.{IsSound};
-ghost use Rattle.od_model.specs.History.Laws.{EveryCommandIsAnswered, OneSegmentSettles, OneAnswer, OneEffect, CommandsDecide, FollowingBegins, FrontsBegin, NothingFollows, SoundnessIsKept, PrintsShowRounds, DocumentsGrow, HeldSessionsStay, NextRoundsStay, HeldAnswersStay, SessionsWereOpened, OneOpening, AlikeInOneHistory, AlikeAcrossStarts, EqualRoundsShowSame, FinishedPrintsAgree, LaterPrintsGoOn, ResumedPrintsAgree};
+ghost use Rattle.od_model.specs.History.Laws.{EveryCommandIsAnswered, OneSegmentSettles, OneAnswer, OneEffect, CommandsDecide};
+ghost use Rattle.od_model.specs.History.Laws.{FollowingBegins, FrontsBegin, NothingFollows, SoundnessIsKept, PrintsShowRounds};
+ghost use Rattle.od_model.specs.History.Laws.{DocumentsGrow, HeldSessionsStay, NextRoundsStay, HeldAnswersStay};
+ghost use Rattle.od_model.specs.History.Alike.{SessionsWereOpened, OneOpening, AlikeInOneHistory, AlikeAcrossStarts};
+ghost use Rattle.od_model.specs.History.Alike.{EqualRoundsShowSame, FinishedPrintsAgree, LaterPrintsGoOn, ResumedPrintsAgree};
 
 /// The object answers every command of every caller, so no legal history is stuck. To `Settle` one segment with all
 /// committed sentences is an answer, or no segment where there is no sentence.

@@ -1,7 +1,6 @@
 -- Prints of the session of one name are alike, in one history and across a new start.
-use Rattle.std.proofs.Common.{◌≡◌, inr, ℕ, List, [], ◌∷◌, ◌++◌, map, Some, Bool, true, false, cond, ◌||◌, refl, sym, ap, ◌∙◌, subst}
+use Rattle.std.proofs.Common.{◌≡◌, inr, ℕ, List, ◌++◌, map, Some, sym, ap, ◌∙◌, subst}
 use Rattle.std.specs.Prelude.{option_map}
-use Rattle.std.specs.List.{list_any}
 use Rattle.od_pattern.specs.declared.grammar.Head.{Head}
 use Rattle.od_command.specs.declared.history.Entry.{Entry}
 use Rattle.od_session.specs.declared.object.SessionState.{SessionState}
@@ -13,8 +12,8 @@ use Rattle.od_model.specs.Object.Effects.{let_go}
 use Rattle.od_model.specs.Object.Sound.{IsSound}
 use Rattle.od_model.specs.History.Legal.{state_after, Legal}
 use Rattle.od_model.specs.History.Prints.{Opening, IsOpened}
-use Rattle.od_model.specs.History.Laws.{Shown, AreAlike, AreInOneHistory, AreAcrossStarts, let_all_go, opening_of}
-use Rattle.od_model.proofs.Objects.Names.{same-name}
+use Rattle.od_model.specs.History.Alike.{Shown, AreAlike, AreInOneHistory, AreAcrossStarts, let_all_go, opening_of}
+use Rattle.od_model.proofs.Objects.Names.{same-name, any-found}
 use Rattle.od_model.proofs.Histories.Openings.{opened-later, opened-after, IsOpenedSession}
 use Rattle.od_model.proofs.Histories.Once.{one-opening, opened-there}
 
@@ -27,14 +26,6 @@ alike-in-one one other h =
     one-opening other.start other.heads other.seen other.name one.shows.opening other.shows.opening h.legal now other.shows.opened
 
 -- ## Across a new start
-
-any-found : (name : List ℕ) (xs : List SessionState) → list_any (is_named name) xs ≡ true → (s : SessionState) × (session_of name xs ≡ Some s)
-any-found name [] h = absurd (cc)
-any-found name (x ∷ xs) h = here (is_named name x) (any-found name xs) h
-  where
-    here : (b : Bool) → (list_any (is_named name) xs ≡ true → (s : SessionState) × (session_of name xs ≡ Some s)) → (b || list_any (is_named name) xs) ≡ true → (s : SessionState) × (cond b (Some x) (session_of name xs) ≡ Some s)
-    here true behind e = (x, refl)
-    here false behind e = behind e
 
 -- each session is found by its name among those that were let go
 found-again : (name : List ℕ) (xs : List SessionState) (s : SessionState) → session_of name xs ≡ Some s → session_of name (map let_go xs) ≡ Some (let_go s)
@@ -55,6 +46,6 @@ pub alike-across : (one other : Shown) → AreAcrossStarts one other → AreAlik
 alike-across one other h =
     let es = one.seen ++ h.more in
     let was : IsOpened one.start one.heads es one.name one.shows.opening = opened-later one.start one.heads one.seen h.more one.name one.shows.opening one.shows.opened in
-    let again : IsOpened (let_all_go (state_after one.start one.heads es)) other.heads other.seen one.name one.shows.opening = there-again one.start one.heads es h.sound h.accepted h.legal one.name one.shows.opening was other.heads other.seen in
+    let again : IsOpened (let_all_go (state_after one.start one.heads es)) other.heads other.seen one.name one.shows.opening = there-again one.start one.heads es h.first.sound h.first.accepted h.first.legal one.name one.shows.opening was other.heads other.seen in
     let now : IsOpened other.start other.heads other.seen other.name one.shows.opening = rw (sym h.again, h.name) at again in
-    one-opening other.start other.heads other.seen other.name one.shows.opening other.shows.opening h.legal_again now other.shows.opened
+    one-opening other.start other.heads other.seen other.name one.shows.opening other.shows.opening h.second now other.shows.opened

@@ -21,7 +21,7 @@ use Rattle.od_text.specs.Lists.{Each, EachPoint}
 use Rattle.od_text.proofs.Lists.{EachPoint-at}
 use Rattle.od_model.specs.History.Legal.{state_after}
 use Rattle.od_model.specs.History.Prints.{Opening, IsOpened}
-use Rattle.od_model.specs.History.Laws.{Shown, AreAlike, ShowSame, GoesOnFrom}
+use Rattle.od_model.specs.History.Alike.{Shown, AreAlike, ShowSame, GoesOnFrom}
 use Rattle.od_model.proofs.Histories.Frames.{docs-grow, docs-grow-after}
 use Rattle.od_model.proofs.Histories.Sound.{rounds-suc}
 

@@ -1,5 +1,5 @@
 -- A session of a name is opened once.
-use Rattle.std.proofs.Common.{◌≡◌, ◌⊎◌, inl, inr, ℕ, List, [], ◌∷◌, ◌++◌, length, take, Some, Bool, true, false, cond, ◌||◌, refl, sym, ap, ◌∙◌, subst}
+use Rattle.std.proofs.Common.{◌≡◌, ◌⊎◌, inl, inr, ℕ, List, [], ◌∷◌, ◌++◌, length, take, Some, true, false, refl, sym, ap, ◌∙◌, subst}
 use Rattle.std.specs.List.{list_any}
 use Rattle.std.proofs.lemmas.List.Folds.{list_any-append}
 use Rattle.od_pattern.specs.declared.grammar.Head.{Head}
@@ -10,13 +10,13 @@ use Rattle.od_command.specs.declared.history.Reply.TheVariants.{Added, Opened, S
 use Rattle.od_command.specs.declared.history.Entry.{Entry}
 use Rattle.od_session.specs.declared.object.SessionState.{SessionState}
 use Rattle.od_session.specs.declared.object.OneThread.{OneThread}
-use Rattle.od_session.specs.Parts.{is_named, has_session, session_of, head_of}
+use Rattle.od_session.specs.Parts.{is_named, has_session, head_of}
 use Rattle.od_model.specs.Object.Replies.{Replies}
 use Rattle.od_model.specs.Object.Effects.{change, stepped, taken_by, let_go, opened, effect_of, effect}
 use Rattle.od_model.specs.History.Legal.{state_after, Legal}
 use Rattle.od_model.specs.History.Prints.{Opening, IsOpenedWithin, IsOpenedBefore, IsOpened}
 use Rattle.od_model.proofs.Objects.Answered.{answered}
-use Rattle.od_model.proofs.Objects.Names.{or_from_left, or_from_right, any-change}
+use Rattle.od_model.proofs.Objects.Names.{or_from_left, or_from_right, found-any, any-change}
 use Rattle.od_model.proofs.Objects.Places.{name-itself}
 use Rattle.od_model.proofs.Histories.Steps.{state_after-append, Legal-at}
 
@@ -26,14 +26,6 @@ module _ (name : List ℕ) where
   -- a session has the name
   abbrev HasIt : OneThread → Type 0
   HasIt o = has_session o name ≡ true
-
-  found-any : (xs : List SessionState) (s : SessionState) → session_of name xs ≡ Some s → list_any (is_named name) xs ≡ true
-  found-any [] s at = absurd (cc)
-  found-any (x ∷ xs) s at = here (is_named name x) (found-any xs s) at
-    where
-      here : (b : Bool) → (session_of name xs ≡ Some s → list_any (is_named name) xs ≡ true) → cond b (Some x) (session_of name xs) ≡ Some s → (b || list_any (is_named name) xs) ≡ true
-      here true behind e = refl
-      here false behind e = behind e
 
   changed : (o : OneThread) (asked : List ℕ) (f : SessionState → SessionState) → ((s : SessionState) → (f s).name ≡ s.name) → list_any (is_named name) o.sessions ≡ true → list_any (is_named name) (change asked f o.sessions) ≡ true
   changed o asked f keeps h = any-change name asked f keeps o.sessions ∙ h

@@ -18,7 +18,7 @@ use Rattle.od_session.specs.Parts.{IsAccepted, is_named, Distinct, session_of, h
 use Rattle.od_model.specs.Object.Effects.{doc_made, change, stepped, taken_by, let_go, effect_of}
 use Rattle.od_model.specs.History.Legal.{state_after, IsNext, Legal}
 use Rattle.od_model.specs.History.Prints.{Opening, IsOpened}
-use Rattle.od_model.specs.History.Laws.{opening_of}
+use Rattle.od_model.specs.History.Alike.{opening_of}
 use Rattle.od_text.proofs.Lists.{Each-append, Each-weaker, Each-both}
 use Rattle.od_model.proofs.Objects.Answered.{IsOpening, Answered, answered}
 use Rattle.od_model.proofs.Objects.Names.{Each-changed}

@@ -11,7 +11,7 @@ use Rattle.od_session.specs.Parts.{IsAccepted, is_named, session_of}
 use Rattle.od_model.specs.Object.Replies.{Replies}
 use Rattle.od_model.specs.History.Legal.{state_after, Legal}
 use Rattle.od_model.specs.History.Lines.{lines_of_session}
-use Rattle.od_model.specs.History.Laws.{opening_of}
+use Rattle.od_model.specs.History.Alike.{opening_of}
 use Rattle.od_model.specs.History.Prints.{IsOpened, ShowsRounds, PrintsRounds}
 use Rattle.od_text.proofs.Lists.{Each-find, find-passes}
 use Rattle.od_model.proofs.Objects.Answered.{IsPrinting, answered}

@@ -51,6 +51,24 @@ unique name seen (x ∷ xs) s h e = here_or_behind name seen xs x s (is_named na
 pub session-unique : (name : List ℕ) (sessions : List SessionState) (s : SessionState) → Distinct sessions → session_of name sessions ≡ Some s → Each (λ t. is_named name t ≡ true → t ≡ s) sessions
 session-unique name sessions s h e = unique name [] sessions s h e
 
+-- ## A session of a name is found where there is one
+
+pub found-any : (name : List ℕ) (xs : List SessionState) (s : SessionState) → session_of name xs ≡ Some s → list_any (is_named name) xs ≡ true
+found-any name [] s at = absurd (cc)
+found-any name (x ∷ xs) s at = here (is_named name x) (found-any name xs s) at
+  where
+    here : (b : Bool) → (session_of name xs ≡ Some s → list_any (is_named name) xs ≡ true) → cond b (Some x) (session_of name xs) ≡ Some s → (b || list_any (is_named name) xs) ≡ true
+    here true behind e = refl
+    here false behind e = behind e
+
+pub any-found : (name : List ℕ) (xs : List SessionState) → list_any (is_named name) xs ≡ true → (s : SessionState) × (session_of name xs ≡ Some s)
+any-found name [] h = absurd (cc)
+any-found name (x ∷ xs) h = here (is_named name x) (any-found name xs) h
+  where
+    here : (b : Bool) → (list_any (is_named name) xs ≡ true → (s : SessionState) × (session_of name xs ≡ Some s)) → (b || list_any (is_named name) xs) ≡ true → (s : SessionState) × (cond b (Some x) (session_of name xs) ≡ Some s)
+    here true behind e = (x, refl)
+    here false behind e = behind e
+
 -- ## Changes
 
 each_one : (P : SessionState → Type 0) (f : SessionState → SessionState) (s : SessionState) (b : Bool) → P s → (b ≡ true → P (f s)) → P (cond b (f s) s)
