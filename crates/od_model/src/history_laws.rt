@@ -3,14 +3,14 @@
 //! A law is what a function here ensures; the function itself does nothing.
 ghost use Rattle.od_session.specs.Parts.{nothing};
 ghost use Rattle.od_model.specs.Object.Sound.{IsSound};
-ghost use Rattle.od_model.specs.History.Laws.{EveryCommandIsAnswered, OneSegmentSettles, OneAnswer, OneEffect, CommandsDecide};
+ghost use Rattle.od_model.specs.History.Laws.{EveryCommandIsAnswered, OneSegmentSettles, OneAnswer, OneEffect, LegalGoesOn, FrontsAreLegal, CommandsDecide};
 ghost use Rattle.od_model.specs.History.Laws.{FollowingBegins, FrontsBegin, NothingFollows, SoundnessIsKept, PrintsShowRounds};
 ghost use Rattle.od_model.specs.History.Laws.{DocumentsGrow, HeldSessionsStay, NextRoundsStay, HeldAnswersStay};
 ghost use Rattle.od_model.specs.History.Alike.{SessionsWereOpened, OneOpening, AlikeInOneHistory, AlikeAcrossStarts};
 ghost use Rattle.od_model.specs.History.Alike.{EqualRoundsShowSame, FinishedPrintsAgree, LaterPrintsGoOn, ResumedPrintsAgree};
 
-/// The object answers every command of every caller, so no legal history is stuck. To `Settle` one segment with all
-/// committed sentences is an answer, or no segment where there is no sentence.
+/// The object answers every command of every caller. To `Settle` one segment with all committed sentences is an
+/// answer, or no segment where there is no sentence.
 pub fn every_command_is_answered()
     ensures answer { EveryCommandIsAnswered }
     ensures settle { OneSegmentSettles }
@@ -20,6 +20,12 @@ pub fn every_command_is_answered()
 pub fn one_answer_only()
     ensures reply { OneAnswer }
     ensures effect { OneEffect }
+{}
+
+/// A legal history may go on with any command of any caller, and each front of it is a legal history.
+pub fn legal_histories_go_on()
+    ensures more { LegalGoesOn }
+    ensures front { FrontsAreLegal }
 {}
 
 /// The commands of a legal history, with their callers and in their order, decide the object that it leads to.

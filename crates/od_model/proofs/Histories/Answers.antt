@@ -1,19 +1,19 @@
 -- Every command has an answer, and its answers have one effect.
-use Rattle.std.proofs.Common.{◌≡◌, ◌≢◌, ℕ, zero, suc, map, ◌++◌, append-nil, append_assoc, List, [], ◌∷◌, refl, sym, ap, ◌∙◌, arith}
+use Rattle.std.proofs.Common.{◌≡◌, ◌≢◌, ℕ, ◌+◌, length, zero, suc, map, ◌++◌, append-nil, append_assoc, List, [], ◌∷◌, refl, sym, ap, ◌∙◌, arith}
 use Rattle.od_pattern.specs.declared.grammar.Head.{Head}
 use Rattle.od_command.specs.declared.history.Command.{Command}
 use Rattle.od_command.specs.declared.history.Command.TheVariants.{AddDoc, OpenSession, Step, Resume, Print, Release, Settle}
 use Rattle.od_command.specs.declared.history.Reply.{Reply}
 use Rattle.od_command.specs.declared.history.Reply.TheVariants.{Settled}
 use Rattle.od_command.specs.declared.history.Entry.{Entry}
-use Rattle.od_text.specs.Lists.{Each, points_after}
-use Rattle.od_model.specs.History.Legal.{state_after, IsNext, Legal}
-use Rattle.od_model.specs.History.Laws.{one_segment, asked}
-use Rattle.od_model.proofs.Histories.Steps.{state_after-snoc}
 use Rattle.od_session.specs.declared.object.OneThread.{OneThread}
 use Rattle.od_session.specs.Parts.{sentence_count, session_of}
+use Rattle.od_text.specs.Lists.{Each, points_after}
+use Rattle.od_model.specs.History.Legal.{state_after, mine, IsNext, Legal}
+use Rattle.od_model.specs.History.Laws.{one_segment, asked}
 use Rattle.od_model.specs.Object.Replies.{reply_doc, reply_open, reply_step, reply_resume, reply_print, reply_release, held, Settles, Replies}
 use Rattle.od_model.specs.Object.Effects.{effect_of}
+use Rattle.od_model.proofs.Histories.Steps.{state_after-snoc, Legal-snoc}
 
 settles : (o : OneThread) (count : ℕ) → sentence_count o.docs ≡ count → Settles o (one_segment count)
 settles o zero e = record { whole = sym e; some = tt; none_due = refl }
@@ -54,6 +54,13 @@ one-effect heads o caller (Release name) one other r k = ap (effect_of heads o c
 one-effect heads o caller Settle one other r k = ap (effect_of heads o caller Settle) r.1 ∙ sym (ap (effect_of heads o caller Settle) k.1)
 
 -- ## Commands of a history
+
+-- any command of any caller may come next
+pub legal-goes-on : (start : OneThread) (heads : List Head) (es : List Entry) (caller : ℕ) (command : Command) → Legal start heads es → (e : Entry) × (asked e ≡ (caller, command)) × Legal start heads (es ++ e ∷ [])
+legal-goes-on start heads es caller command legal =
+    let (reply, replies) = answer heads (state_after start heads es) caller command in
+    let e : Entry = record { caller = caller; call = length (mine caller es) + 1; command = command; reply = reply } in
+    (e, refl, Legal-snoc start heads es e legal (record { replies = replies; numbered = refl }))
 
 module _ (heads : List Head) where
   -- equal commands of equal callers lead from equal objects to equal ones

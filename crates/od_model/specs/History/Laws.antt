@@ -48,9 +48,23 @@ OneEffect =
     → Replies heads o caller command one → Replies heads o caller command other
     → effect_of heads o caller command one ≡ effect_of heads o caller command other
 
+-- ## Legal histories
+
 -- who asked for what
 abbrev pub asked : Entry → ℕ × Command
 asked e = (e.caller, e.command)
+
+-- a legal history may go on with any command of any caller
+abbrev pub LegalGoesOn : Type 0
+LegalGoesOn =
+    (start : OneThread) (heads : List Head) (es : List Entry) (caller : ℕ) (command : Command) → Legal start heads es
+    → (e : Entry) × (asked e ≡ (caller, command)) × Legal start heads (es ++ e ∷ [])
+
+-- the front of a legal history is one
+abbrev pub FrontsAreLegal : Type 0
+FrontsAreLegal =
+    (start : OneThread) (heads : List Head) (es fs : List Entry)
+    → Legal start heads (es ++ fs) → Legal start heads es
 
 -- the commands of a legal history, with their callers, decide the object that it leads to
 abbrev pub CommandsDecide : Type 0
@@ -70,7 +84,8 @@ FrontsBegin = (orders : List Order) (es fs : List Entry) → Begins orders (es +
 
 -- nothing goes on behind entries that unfold the orders
 abbrev pub NothingFollows : Type 0
-NothingFollows = (orders : List Order) (es fs : List Entry) → Follows orders es → Begins orders (es ++ fs) → fs ≡ []
+NothingFollows =
+    (orders : List Order) (es fs : List Entry) → Follows orders es → Begins orders (es ++ fs) → fs ≡ []
 
 -- ## Soundness
 
@@ -101,7 +116,8 @@ DocumentsGrow =
     → (more : List Doc) × ((state_after start heads (es ++ fs)).docs ≡ (state_after start heads es).docs ++ more)
 
 -- after es the caller holds the session of this name, and fs, which may come next, has no entry of the caller
-pub record IsHeldThrough (start : OneThread) (heads : List Head) (es fs : List Entry) (caller : ℕ) (name : List ℕ) (s : SessionState) : Type 0 where
+pub record IsHeldThrough (start : OneThread) (heads : List Head) (es fs : List Entry)
+    (caller : ℕ) (name : List ℕ) (s : SessionState) : Type 0 where
   pub legal : Legal start heads (es ++ fs)
   pub there : session_of name (state_after start heads es).sessions ≡ Some s
   pub held : s.holder ≡ Some caller
