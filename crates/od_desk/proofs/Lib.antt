@@ -1,2 +1,3 @@
 -- The lemmas of this crate.
-pub mod Stores
+pub mod Answering
+pub mod Further

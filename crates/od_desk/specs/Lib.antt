@@ -1,2 +1,3 @@
 -- The definitions of this crate.
-pub mod Stores
+pub mod Desks
+pub mod Further

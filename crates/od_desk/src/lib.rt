@@ -1,5 +1,5 @@
-//! Documents and sessions as they are kept.
+//! The desk: documents, sessions, the history of answered commands and the sink of their lines, as one value.
 #![tactic(auto)]
 
-mod names;
-pub mod store;
+pub mod desk;
+mod shown;

@@ -13,7 +13,7 @@ ghost use Rattle.od_serve.specs.Running.Told.{IsTold, IsReached, GoesFurther};
 
 use crate::run::{Stop, run_client};
 use od_command::history::Entry;
-use od_desk::store::Store;
+use od_workspace::workspace::Store;
 use od_io::{Failed, Sink};
 use od_order::script::Order;
 use od_pattern::grammar::Head;

@@ -11,8 +11,8 @@ ghost use Rattle.od_order.specs.declared.script.Order.TheVariants.{Run};
 
 use crate::shown::entry_lines;
 use od_command::history::{Command, Entry, Reply};
-use od_desk::store::Store;
-use od_desk::store::change::Answer;
+use od_workspace::workspace::Store;
+use od_workspace::workspace::change::Answer;
 use od_extraction::phase::Phase;
 use od_io::{Sink, write_whole};
 use od_order::script::Order;

@@ -11,7 +11,7 @@ ghost use Rattle.od_order.specs.Runnable.{IsRunnable};
 
 use crate::clients::run_clients;
 use od_command::history::{Entry, Reply};
-use od_desk::store::Store;
+use od_workspace::workspace::Store;
 use od_io::{ReadAll, Sink, Source, read_all, write_whole};
 use od_model::status::Status;
 use od_order::script::Script;

@@ -1,3 +1,4 @@
 -- The lemmas of this crate.
+pub mod Accepted
 pub mod After
 pub mod Queries

@@ -1,5 +1,5 @@
 -- What the one-thread object has, and the tests that its refusals ask.
-use Rattle.std.specs.Prelude.{◌≡◌, ℕ, ◌+◌, List, [], length, take, find, sum_by, Option, Some, unwrap_or, Bool, true, false, ◌&&◌, ◌||◌, nat_lt, nat_le, bytes_eq}
+use Rattle.std.specs.Prelude.{◌≡◌, ℕ, ◌+◌, List, [], length, take, find, sum_by, Option, Some, None, is_some, unwrap_or, not, Bool, true, false, ◌&&◌, ◌||◌, nat_lt, nat_le, bytes_eq}
 use Rattle.std.specs.List.{list_any}
 use Rattle.od_document.specs.declared.doc.Doc.{Doc}
 use Rattle.od_pattern.specs.declared.grammar.Head.{Head}
@@ -42,6 +42,10 @@ is_full o size = nat_le ALL_DOCUMENTS (length o.docs) || nat_lt ALL_BYTES (size_
 abbrev pub IsAccepted : Head → Type 0
 IsAccepted head = (grammar : Grammar) × (grammar_of head.kind head.text ≡ Some grammar)
 
+-- the first head whose grammar is not accepted
+abbrev pub first_refused : List Head → Option Head
+first_refused heads = find (λ h. not (is_some (grammar_of h.kind h.text))) heads
+
 -- the session has the name
 abbrev pub is_named : List ℕ → SessionState → Bool
 is_named name s = bytes_eq s.name name
@@ -56,6 +60,15 @@ session_of name sessions = find (is_named name) sessions
 
 abbrev pub has_session : OneThread → List ℕ → Bool
 has_session o name = list_any (is_named name) o.sessions
+
+-- the rounds of a session that may be there
+abbrev pub rounds_in : Option SessionState → ℕ
+rounds_in None = 0
+rounds_in (Some s) = length s.rounds
+
+-- how many rounds the session of a name has
+abbrev pub round_count : List ℕ → OneThread → ℕ
+round_count name o = rounds_in (session_of name o.sessions)
 
 -- the script's grammar of a name
 abbrev pub head_of : List ℕ → List Head → Option Head

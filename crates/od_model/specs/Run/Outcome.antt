@@ -8,8 +8,7 @@ use Rattle.od_order.specs.declared.script.Script.{Script}
 use Rattle.od_session.specs.declared.object.OneThread.{OneThread}
 use Rattle.od_model.specs.declared.status.Status.{Status}
 use Rattle.od_model.specs.declared.status.Status.TheVariants.{Done, Refused, Usage, NoScript, BadGrammar, ReadFault, WriteFault, NoMemory}
-use Rattle.od_text.specs.Lists.{Each}
-use Rattle.od_session.specs.Parts.{IsAccepted}
+use Rattle.od_session.specs.Parts.{first_refused}
 use Rattle.od_model.specs.History.Legal.{state_after}
 use Rattle.od_model.specs.History.Lines.{entry_lines, Lines}
 use Rattle.od_model.specs.History.Orders.{Follows}
@@ -37,20 +36,12 @@ pub record IsScriptOf (left : Option (List ℕ)) (script : Script) : Type 0 wher
 abbrev pub IsNoScript : Option (List ℕ) → Type 0
 IsNoScript left = IfSome left (λ known. script_of known ≡ None)
 
--- the first head whose grammar is not accepted
-pub record IsFirstRefused (heads : List Head) (head : Head) : Type 0 where
-  pub before : List Head
-  pub since : List Head
-  pub heads_are : heads ≡ before ++ head ∷ since
-  pub accepted : Each IsAccepted before
-  pub refused : IsAccepted head → ⊥
-
 -- the bytes that a source had are a script, and the first of its grammars that is not accepted has this name
 pub record HasBadGrammar (name : List ℕ) (left : Option (List ℕ)) : Type 0 where
   pub script : Script
   pub is : IsScriptOf left script
   pub head : Head
-  pub first : IsFirstRefused script.heads head
+  pub first : first_refused script.heads ≡ Some head
   pub name_is : name ≡ head.name
 
 -- ## The lines

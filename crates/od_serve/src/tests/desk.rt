@@ -1,7 +1,7 @@
 use crate::examples::{Ask, DOGS, command, head};
 use od_command::history::{Command, Refusal, Reply};
-use od_desk::store::Store;
-use od_desk::store::change::Answer;
+use od_workspace::workspace::Store;
+use od_workspace::workspace::change::Answer;
 use od_document::conllu::ConlluKind;
 use od_extraction::phase::Phase;
 use od_text::text::{Bytes, NoMemory, Text};

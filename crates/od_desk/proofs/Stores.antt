@@ -1,6 +1,0 @@
-pub mod Added
-pub mod Answers
-pub mod Changes
-pub mod Names
-pub mod Places
-pub mod Steps

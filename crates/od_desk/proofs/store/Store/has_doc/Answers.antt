@@ -1,7 +1,0 @@
-use Rattle.std.proofs.Common.{◌∙◌, ap}
-use Rattle.std.specs.Option.{is_some}
-use Rattle.od_desk.proofs.Stores.Added.{named}
-use Rattle.od_desk.proofs.store.Store.has_doc.Goals as goal
-
-pub returns : goal.returns
-returns c = rw (← c.self.view_is) (c.is_some.ensures ∙ ap is_some c.place.ensures ∙ named (λ d. d.name) c.args.name.now c.self.inside.doc_names c.self.inside.docs.items c.self.invariant.doc_names_are)

@@ -1,7 +1,0 @@
-use Rattle.std.proofs.Common.{◌∙◌, ap}
-use Rattle.std.specs.Option.{is_some}
-use Rattle.od_desk.proofs.Stores.Added.{named}
-use Rattle.od_desk.proofs.store.Store.has_session.Goals as goal
-
-pub returns : goal.returns
-returns c = rw (← c.self.view_is) (c.is_some.ensures ∙ ap is_some c.place.ensures ∙ named (λ s. s.name) c.args.name.now c.self.inside.session_names c.self.inside.sessions.items c.self.invariant.session_names_are)

@@ -1,7 +1,0 @@
-use Rattle.od_desk.proofs.Stores.Places.{session-at_position}
-use Rattle.od_desk.proofs.Stores.Changes.{found-changes}
-use Rattle.od_desk.proofs.store.Store.place.Goals as goal
-
-pub returns : goal.returns
-returns c = rw (← c.self.view_is) (found-changes c.args.name.now c.self.inside.sessions.items c.place.result c.self.invariant.distinct
-    (session-at_position c.args.name.now c.self.inside.session_names c.self.inside.sessions.items c.place.result c.self.invariant.session_names_are c.place.ensures))

@@ -1,0 +1,7 @@
+pub mod Added
+pub mod Answers
+pub mod Changes
+pub mod Heads
+pub mod Names
+pub mod Places
+pub mod Steps
