@@ -1,5 +1,11 @@
+pub mod Again
+pub mod Alike
+pub mod Answers
 pub mod Callers
 pub mod Climbs
+pub mod Examples
+pub mod Frames
+pub mod Once
 pub mod Openings
 pub mod Orders
 pub mod Prints

@@ -1,5 +1,5 @@
 -- What a script that was read has: few clients, with few orders each.
-use Rattle.std.proofs.Common.{◌≡◌, ℕ, List, [], ◌∷◌, length, take, drop, Option, Some, None, Bool, true, false, if◌then◌else◌, refl, subst, arith}
+use Rattle.std.proofs.Common.{◌≡◌, ℕ, List, [], ◌∷◌, length, take, drop, Option, Some, None, Bool, true, false, if◌then◌else◌, subst, arith}
 use Rattle.std.specs.Prelude.{nat_lt, bytes_eq, codes}
 use Rattle.od_pattern.specs.declared.grammar.Head.{Head}
 use Rattle.od_order.specs.declared.script.Script.{Script}

@@ -1,3 +1,5 @@
+pub mod Alike
+pub mod Laws
 pub mod Legal
 pub mod Lines
 pub mod Orders

@@ -1,5 +1,5 @@
 -- A step that goes on adds a list to its session, which has at most as many as a session may have.
-use Rattle.std.proofs.Common.{◌≡◌, ℕ, ◌+◌, ◌≤◌, List, [], ◌∷◌, length, find, Option, Some, None, Bool, true, false, cond, refl, sym, ap, ◌∙◌, subst, arith, length-append}
+use Rattle.std.proofs.Common.{◌≡◌, ℕ, ◌+◌, ◌≤◌, List, [], ◌∷◌, length, find, Option, Some, None, Bool, true, false, cond, refl, sym, ap, ◌∙◌, arith, length-append}
 use Rattle.std.specs.Prelude.{option_map}
 use Rattle.od_document.specs.declared.doc.Doc.{Doc}
 use Rattle.od_pattern.specs.declared.grammar.Head.{Head}
@@ -11,10 +11,11 @@ use Rattle.od_session.specs.declared.object.OneThread.{OneThread}
 use Rattle.od_text.specs.Lists.{Each}
 use Rattle.od_session.specs.declared.object.TheConstants.{SESSION_ROUNDS}
 use Rattle.od_session.specs.Parts.{rounds_in, round_count, is_named, session_of, round_at}
-use Rattle.od_model.specs.Object.Replies.{reply_step, held_in, Replies}
+use Rattle.od_model.specs.Object.Replies.{Replies}
 use Rattle.od_model.specs.Object.Effects.{change, change_one, stepped, found_of, effect_of}
 use Rattle.od_model.specs.History.Orders.{GoesOn}
 use Rattle.od_text.proofs.Lists.{find-map, find-passes, Each-find}
+use Rattle.od_model.proofs.Objects.Answered.{Answered, answered}
 use Rattle.od_model.specs.Object.Sound.{IsSound, IsSoundSession}
 
 few-of : (docs : List Doc) (name : List ℕ) (sessions : List SessionState) (found : Option SessionState) → Each (IsSoundSession docs) sessions → session_of name sessions ≡ found → rounds_in found ≤ SESSION_ROUNDS
@@ -40,23 +41,13 @@ longer : (docs : List Doc) (s : SessionState) (b : Bool) → b ≡ true → leng
 longer docs s true e = length-append s.rounds (found_of (round_at docs s) ∷ [])
 longer docs s false e = absurd (cc)
 
-found-passes : (name : List ℕ) (xs : List SessionState) (s : SessionState) → session_of name xs ≡ Some s → is_named name s ≡ true
-found-passes name xs s e = find-passes (is_named name) s xs e
-
 grown : (docs : List Doc) (name : List ℕ) (xs : List SessionState) (s : SessionState) → session_of name xs ≡ Some s → rounds_in (session_of name (change name (stepped docs) xs)) ≡ rounds_in (session_of name xs) + 1
-grown docs name xs s e = ap rounds_in (session-changed docs name xs ∙ ap (option_map (change_one name (stepped docs))) e) ∙ longer docs s (is_named name s) (found-passes name xs s e) ∙ ap (λ f. rounds_in f + 1) (sym e)
+grown docs name xs s e = ap rounds_in (session-changed docs name xs ∙ ap (option_map (change_one name (stepped docs))) e) ∙ longer docs s (is_named name s) (find-passes (is_named name) s xs e) ∙ ap (λ f. rounds_in f + 1) (sym e)
 
--- a reply that goes on comes of a session that is there
-there : (o : OneThread) (caller : ℕ) (found : Option SessionState) → GoesOn (reply_step o (held_in caller found)) → (s : SessionState) × (found ≡ Some s)
-there o caller None h = absurd h
-there o caller (Some s) h = (s, refl)
-
-climbs-by : (heads : List Head) (o : OneThread) (caller : ℕ) (name : List ℕ) (reply : Reply) → GoesOn reply → (s : SessionState) → session_of name o.sessions ≡ Some s → round_count name (effect_of heads o caller (Step name) reply) ≡ round_count name o + 1
-climbs-by heads o caller name (Stepped round added phase) h s at = grown o.docs name o.sessions s at
-climbs-by heads o caller name reply h s at = absurd h
+climbs-by : (heads : List Head) (o : OneThread) (caller : ℕ) (name : List ℕ) (reply : Reply) → Answered heads o caller (Step name) reply → GoesOn reply → round_count name (effect_of heads o caller (Step name) reply) ≡ round_count name o + 1
+climbs-by heads o caller name (Stepped round added phase) a goes = grown o.docs name o.sessions a.holding.session a.holding.there
+climbs-by heads o caller name reply a goes = absurd goes
 
 -- a step that goes on adds a list
 pub step-climbs : (heads : List Head) (o : OneThread) (caller : ℕ) (name : List ℕ) (reply : Reply) → Replies heads o caller (Step name) reply → GoesOn reply → round_count name (effect_of heads o caller (Step name) reply) ≡ round_count name o + 1
-step-climbs heads o caller name reply r goes =
-    let found = there o caller (session_of name o.sessions) (subst GoesOn r goes) in
-    climbs-by heads o caller name reply goes found.0 found.1
+step-climbs heads o caller name reply r goes = climbs-by heads o caller name reply (answered heads o caller (Step name) reply r) goes

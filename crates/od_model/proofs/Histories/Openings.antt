@@ -1,5 +1,5 @@
 -- Along a legal history each session is one that an entry opened, or that was there at the start.
-use Rattle.std.proofs.Common.{◌≡◌, inl, inr, ℕ, List, [], ◌∷◌, ◌++◌, length, take, Option, Some, None, Bool, true, false, cond, ◌||◌, nat_lt, nat_le, refl, ap, ◌∙◌, append-nil, append_assoc, if◌then◌else◌}
+use Rattle.std.proofs.Common.{◌≡◌, inl, inr, ℕ, List, [], ◌∷◌, ◌++◌, length, take, Option, Some, None, Bool, true, false, cond, ◌||◌, refl, ap, ◌∙◌, append-nil, append_assoc}
 use Rattle.std.specs.List.{list_any}
 use Rattle.std.proofs.lemmas.List.{take-append-le}
 use Rattle.std.proofs.Math.Seq.{take-length}
@@ -8,29 +8,24 @@ use Rattle.od_pattern.specs.declared.grammar.Head.{Head}
 use Rattle.od_command.specs.declared.history.Command.{Command}
 use Rattle.od_command.specs.declared.history.Command.TheVariants.{AddDoc, OpenSession, Step, Resume, Print, Release, Settle}
 use Rattle.od_command.specs.declared.history.Reply.{Reply}
-use Rattle.od_command.specs.declared.history.Reply.TheVariants.{Added, Opened, Stepped, Resumed, Released, Refused}
-use Rattle.od_command.specs.declared.history.Refusal.TheVariants.{BadLimit, Taken, NoRoom}
+use Rattle.od_command.specs.declared.history.Reply.TheVariants.{Added, Opened, Stepped, Resumed, Released}
 use Rattle.od_command.specs.declared.history.Entry.{Entry}
 use Rattle.od_session.specs.declared.object.SessionState.{SessionState}
 use Rattle.od_session.specs.declared.object.OneThread.{OneThread}
 use Rattle.od_document.specs.Building.{document_of}
 use Rattle.od_text.specs.Lists.{Each, points_after}
-use Rattle.od_session.specs.declared.object.TheConstants.{SESSIONS, SESSION_ROUNDS}
-use Rattle.od_session.specs.Parts.{IsAccepted, is_named, Distinct, session_of, has_session, head_of}
-use Rattle.od_model.specs.Object.Replies.{reply_headed, Replies}
+use Rattle.od_session.specs.Parts.{IsAccepted, is_named, Distinct, session_of, head_of}
 use Rattle.od_model.specs.Object.Effects.{doc_made, change, stepped, taken_by, let_go, effect_of}
 use Rattle.od_model.specs.History.Legal.{state_after, IsNext, Legal}
 use Rattle.od_model.specs.History.Prints.{Opening, IsOpened}
+use Rattle.od_model.specs.History.Alike.{opening_of}
 use Rattle.od_text.proofs.Lists.{Each-append, Each-weaker, Each-both}
+use Rattle.od_model.proofs.Objects.Answered.{IsOpening, Answered, answered}
 use Rattle.od_model.proofs.Objects.Names.{Each-changed}
 use Rattle.od_model.proofs.Objects.Places.{name-itself}
 use Rattle.od_model.proofs.Histories.Steps.{state_after-start, state_after-snoc}
 use Rattle.od_model.specs.Object.Sound.{IsSound, IsSoundSession}
 use Rattle.od_model.proofs.Histories.Sound.{keeps}
-
--- how a session was opened, while these documents are committed
-abbrev pub opening_of : SessionState → List Doc → Opening
-opening_of s docs = record { kind = s.kind; text = s.text; docs = take s.documents docs; limit = s.limit }
 
 -- ## The sessions of the start
 
@@ -65,13 +60,13 @@ module _ (start : OneThread) (heads : List Head) where
   abbrev pub IsOpenedSession : List Entry → List Doc → SessionState → Type 0
   IsOpenedSession seen docs s = IsOpened start heads seen s.name (opening_of s docs)
 
-  -- what was opened is so after one entry more
-  opened-later : (seen : List Entry) (e : Entry) (name : List ℕ) (opening : Opening) → IsOpened start heads seen name opening → IsOpened start heads (seen ++ e ∷ []) name opening
-  opened-later seen e name opening (inl h) = inl (record {
+  -- what was opened is so after further entries
+  pub opened-later : (seen more : List Entry) (name : List ℕ) (opening : Opening) → IsOpened start heads seen name opening → IsOpened start heads (seen ++ more) name opening
+  opened-later seen more name opening (inl h) = inl (record {
     before = h.before;
     entry = h.entry;
-    since = h.since ++ e ∷ [];
-    seen_is = ap (λ l. l ++ e ∷ []) h.seen_is ∙ append_assoc h.before (h.entry ∷ h.since) (e ∷ []);
+    since = h.since ++ more;
+    seen_is = ap (λ l. l ++ more) h.seen_is ∙ append_assoc h.before (h.entry ∷ h.since) more;
     grammar = h.grammar;
     head = h.head;
     head_is = h.head_is;
@@ -79,7 +74,7 @@ module _ (start : OneThread) (heads : List Head) where
     reply_is = h.reply_is;
     opening_is = h.opening_is;
   })
-  opened-later seen e name opening (inr h) = inr h
+  opened-later seen more name opening (inr h) = inr h
 
   -- one more document changes nothing of a session before
   opened-more : (seen : List Entry) (docs : List Doc) (made : Option Doc) (s : SessionState) → IsSoundSession docs s → IsOpenedSession seen docs s → IsOpenedSession seen (docs ++ doc_made made) s
@@ -92,29 +87,10 @@ module _ (start : OneThread) (heads : List Head) where
     AreOpened after = Each (IsOpenedSession (seen ++ e ∷ []) after.docs) after.sessions
 
     all-later : AreOpened o
-    all-later = Each-weaker (IsOpenedSession seen o.docs) (IsOpenedSession (seen ++ e ∷ []) o.docs) (λ s k. opened-later seen e s.name (opening_of s o.docs) k) o.sessions h
+    all-later = Each-weaker (IsOpenedSession seen o.docs) (IsOpenedSession (seen ++ e ∷ []) o.docs) (λ s k. opened-later seen (e ∷ []) s.name (opening_of s o.docs) k) o.sessions h
 
     one-made : (made : Option Doc) → AreOpened (record o { docs = o.docs ++ doc_made made })
     one-made made = Each-both (IsSoundSession o.docs) (IsOpenedSession (seen ++ e ∷ []) o.docs) (IsOpenedSession (seen ++ e ∷ []) (o.docs ++ doc_made made)) (λ s. opened-more (seen ++ e ∷ []) o.docs made s) o.sessions sound.sound all-later
-
-    -- what an opening answers
-    opened-room : (documents shown limit : ℕ) (full : Bool) → Opened documents shown ≡ (if full then Refused (NoRoom (length o.sessions)) else Opened (length o.docs) limit) → (documents ≡ length o.docs) × (shown ≡ limit)
-    opened-room documents shown limit true k = absurd (cc)
-    opened-room documents shown limit false k = (cc, cc)
-
-    opened-free : (documents shown limit : ℕ) (taken full : Bool) → Opened documents shown ≡ (if taken then Refused Taken else (if full then Refused (NoRoom (length o.sessions)) else Opened (length o.docs) limit)) → (documents ≡ length o.docs) × (shown ≡ limit)
-    opened-free documents shown limit true full k = absurd (cc)
-    opened-free documents shown limit false full k = opened-room documents shown limit full k
-
-    opened-limit : (documents shown limit : ℕ) (bad taken full : Bool) → Opened documents shown ≡ (if bad then Refused (BadLimit limit) else (if taken then Refused Taken else (if full then Refused (NoRoom (length o.sessions)) else Opened (length o.docs) limit))) → (documents ≡ length o.docs) × (shown ≡ limit)
-    opened-limit documents shown limit true taken full k = absurd (cc)
-    opened-limit documents shown limit false taken full k = opened-free documents shown limit taken full k
-
-    opened-as : (name : List ℕ) (documents shown limit : ℕ) (head : Option Head) → Opened documents shown ≡ reply_headed o name limit head → (found : Head) × (head ≡ Some found) × (documents ≡ length o.docs) × (shown ≡ limit)
-    opened-as name documents shown limit None k = absurd (cc)
-    opened-as name documents shown limit (Some head) k =
-        let says = opened-limit documents shown limit (nat_lt limit 1 || nat_lt SESSION_ROUNDS limit) (has_session o name) (nat_le SESSIONS (length o.sessions)) k in
-        (head, refl, says.0, says.1)
 
     changed : (name : List ℕ) (f : SessionState → SessionState) → ((s : SessionState) → IsOpenedSession (seen ++ e ∷ []) o.docs s → IsOpenedSession (seen ++ e ∷ []) o.docs (f s)) → AreOpened (record o { sessions = change name f o.sessions })
     changed name f stays = Each-changed (IsOpenedSession (seen ++ e ∷ []) o.docs) name f stays o.sessions all-later
@@ -135,23 +111,17 @@ module _ (start : OneThread) (heads : List Head) where
       opening_is = rw is refl;
     }))
 
-    add-session : (name grammar : List ℕ) (limit documents shown : ℕ) (head : Head) → head_of grammar heads ≡ Some head → documents ≡ length o.docs → shown ≡ limit → e.command ≡ OpenSession name grammar limit → e.reply ≡ Opened documents shown
+    add-session : (name grammar : List ℕ) (limit documents shown : ℕ) → e.command ≡ OpenSession name grammar limit → e.reply ≡ Opened documents shown → IsOpening heads o name grammar limit documents shown
         → AreOpened (effect_of heads o e.caller (OpenSession name grammar limit) (Opened documents shown))
-    add-session name grammar limit documents shown head found documents-are shown-is command reply =
-        let answered : e.reply ≡ Opened (length o.docs) limit = rw (documents-are, shown-is) at reply in
-        rw (found, documents-are) (Each-append (IsOpenedSession (seen ++ e ∷ []) o.docs) o.sessions _ all-later (new-session name grammar limit head found command answered, tt))
-
-    add-opened : (name grammar : List ℕ) (limit documents shown : ℕ) → e.command ≡ OpenSession name grammar limit → e.reply ≡ Opened documents shown → Opened documents shown ≡ reply_headed o name limit (head_of grammar heads)
-        → AreOpened (effect_of heads o e.caller (OpenSession name grammar limit) (Opened documents shown))
-    add-opened name grammar limit documents shown command reply k =
-        let (head, found, documents-are, shown-is) = opened-as name documents shown limit (head_of grammar heads) k in
-        add-session name grammar limit documents shown head found documents-are shown-is command reply
+    add-session name grammar limit documents shown command reply a =
+        let says : e.reply ≡ Opened (length o.docs) limit = rw (a.documents_are, a.shown_is) at reply in
+        rw (a.head_is, a.documents_are) (Each-append (IsOpenedSession (seen ++ e ∷ []) o.docs) o.sessions _ all-later (new-session name grammar limit a.head a.head_is command says, tt))
 
     -- after the object's answer
-    opened-next : (command : Command) (reply : Reply) → e.command ≡ command → e.reply ≡ reply → Replies heads o e.caller command reply → AreOpened (effect_of heads o e.caller command reply)
+    opened-next : (command : Command) (reply : Reply) → e.command ≡ command → e.reply ≡ reply → Answered heads o e.caller command reply → AreOpened (effect_of heads o e.caller command reply)
     opened-next (AddDoc name body) (Added documents) c r k = one-made (document_of name body)
     opened-next (AddDoc name body) reply c r k = all-later
-    opened-next (OpenSession name grammar limit) (Opened documents shown) c r k = add-opened name grammar limit documents shown c r k
+    opened-next (OpenSession name grammar limit) (Opened documents shown) c r k = add-session name grammar limit documents shown c r k
     opened-next (OpenSession name grammar limit) reply c r k = all-later
     opened-next (Step name) (Stepped round added phase) c r k = changed name (stepped o.docs) (λ s h. h)
     opened-next (Step name) reply c r k = all-later
@@ -174,7 +144,7 @@ module _ (start : OneThread) (heads : List Head) (accepted : Each IsAccepted hea
   opened-from seen (e ∷ es) sound h legal =
       let o = state_after start heads seen in
       let more : IsSound (state_after start heads (seen ++ e ∷ [])) = rw (state_after-snoc start heads seen e) (keeps heads accepted o sound e.caller e.command e.reply legal.0.replies) in
-      let here : AreOpenedAfter start heads (seen ++ e ∷ []) = rw (state_after-snoc start heads seen e) (opened-next start heads seen e o refl sound h e.command e.reply refl refl legal.0.replies) in
+      let here : AreOpenedAfter start heads (seen ++ e ∷ []) = rw (state_after-snoc start heads seen e) (opened-next start heads seen e o refl sound h e.command e.reply refl refl (answered heads o e.caller e.command e.reply legal.0.replies)) in
       rw (append_assoc seen (e ∷ []) es) at (opened-from (seen ++ e ∷ []) es more here legal.1)
 
   opened-start : IsSound start → AreOpenedAfter start heads []

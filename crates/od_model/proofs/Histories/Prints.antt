@@ -1,54 +1,34 @@
 -- A print of a legal history shows the rounds.
-use Rattle.std.proofs.Common.{◌≡◌, ℕ, List, ◌∷◌, ◌++◌, length, take, Option, Some, None, Ok, Err, Bool, true, false, if◌then◌else◌, refl, ap, eqb, subst}
+use Rattle.std.proofs.Common.{◌≡◌, ℕ, List, ◌∷◌, ◌++◌, length, take, ap, subst}
 use Rattle.od_pattern.specs.declared.grammar.Head.{Head}
 use Rattle.od_extraction.specs.declared.phase.Phase.{Phase}
+use Rattle.od_command.specs.declared.history.Command.TheVariants.{Print}
 use Rattle.od_command.specs.declared.history.Reply.TheVariants.{Printed}
-use Rattle.od_command.specs.declared.history.Refusal.TheVariants.{Busy}
 use Rattle.od_command.specs.declared.history.Entry.{Entry}
-use Rattle.od_session.specs.declared.object.SessionState.{SessionState}
 use Rattle.od_session.specs.declared.object.OneThread.{OneThread}
 use Rattle.od_text.specs.Lists.{Each}
-use Rattle.od_extraction.specs.Joined.{joined}
-use Rattle.od_session.specs.Parts.{IsAccepted, is_named, session_of, phase_with}
-use Rattle.od_model.specs.Object.Replies.{held, held_in, held_as, reply_print}
+use Rattle.od_session.specs.Parts.{IsAccepted, is_named, session_of}
+use Rattle.od_model.specs.Object.Replies.{Replies}
 use Rattle.od_model.specs.History.Legal.{state_after, Legal}
 use Rattle.od_model.specs.History.Lines.{lines_of_session}
+use Rattle.od_model.specs.History.Alike.{opening_of}
 use Rattle.od_model.specs.History.Prints.{IsOpened, ShowsRounds, PrintsRounds}
 use Rattle.od_text.proofs.Lists.{Each-find, find-passes}
+use Rattle.od_model.proofs.Objects.Answered.{IsPrinting, answered}
 use Rattle.od_model.proofs.Objects.Names.{same-name}
 use Rattle.od_matching.proofs.Rounds.Lying.{rounds-lie}
-use Rattle.od_model.proofs.Histories.Openings.{opening_of, IsOpenedSession, AreOpenedAfter, opened-after}
+use Rattle.od_model.proofs.Histories.Openings.{IsOpenedSession, AreOpenedAfter, opened-after}
 use Rattle.od_model.proofs.Histories.Steps.{Legal-front, Legal-at}
 use Rattle.od_model.specs.Object.Sound.{IsSound, IsSoundSession}
 use Rattle.od_model.proofs.Histories.Sound.{sound-after, grammar-is}
 
--- what a print says of the session that it finds
-record IsPrinted (s : SessionState) (number mentions : ℕ) (state : Phase) : Type 0 where
-  number_is : number ≡ length s.rounds
-  mentions_are : mentions ≡ length (joined s.rounds)
-  state_is : state ≡ phase_with s s.rounds
-
-printed-same : (s : SessionState) (number mentions : ℕ) (state : Phase) → Printed number mentions state ≡ reply_print (Ok s) → IsPrinted s number mentions state
-printed-same s number mentions state e = record { number_is = cc; mentions_are = cc; state_is = cc }
-
-owned : (s : SessionState) (owner number mentions : ℕ) (state : Phase) (b : Bool) → Printed number mentions state ≡ reply_print (if b then Ok s else Err (Busy owner)) → IsPrinted s number mentions state
-owned s owner number mentions state true e = printed-same s number mentions state e
-owned s owner number mentions state false e = absurd (cc)
-
-printed-held : (caller : ℕ) (s : SessionState) (number mentions : ℕ) (state : Phase) (holder : Option ℕ) → Printed number mentions state ≡ reply_print (held_as caller s holder) → IsPrinted s number mentions state
-printed-held caller s number mentions state None e = absurd (cc)
-printed-held caller s number mentions state (Some owner) e = owned s owner number mentions state (eqb owner caller) e
-
-printed-of : (o : OneThread) (caller : ℕ) (name : List ℕ) (number mentions : ℕ) (state : Phase) (found : Option SessionState) → session_of name o.sessions ≡ found → Printed number mentions state ≡ reply_print (held_in caller found)
-    → (s : SessionState) × (session_of name o.sessions ≡ Some s) × IsPrinted s number mentions state
-printed-of o caller name number mentions state None at e = absurd (cc)
-printed-of o caller name number mentions state (Some s) at e = (s, at, printed-held caller s number mentions state s.holder e)
-
-shows : (start : OneThread) (heads : List Head) (seen : List Entry) (name : List ℕ) (number mentions : ℕ) (state : Phase) (s : SessionState)
-    → IsSound (state_after start heads seen) → AreOpenedAfter start heads seen → session_of name (state_after start heads seen).sessions ≡ Some s → IsPrinted s number mentions state
+shows : (start : OneThread) (heads : List Head) (seen : List Entry) (caller : ℕ) (name : List ℕ) (number mentions : ℕ) (state : Phase)
+    → IsSound (state_after start heads seen) → AreOpenedAfter start heads seen → IsPrinting (state_after start heads seen) caller name number mentions state
     → ShowsRounds start heads seen name number mentions state (lines_of_session (state_after start heads seen).docs name (session_of name (state_after start heads seen).sessions))
-shows start heads seen name number mentions state s sound opened at p =
+shows start heads seen caller name number mentions state sound opened p =
     let o = state_after start heads seen in
+    let s = p.holding.session in
+    let at = p.holding.there in
     let own : IsSoundSession o.docs s = Each-find (IsSoundSession o.docs) (is_named name) s o.sessions sound.sound at in
     let was : IsOpenedSession start heads seen o.docs s = Each-find (IsOpenedSession start heads seen o.docs) (is_named name) s o.sessions opened at in
     let called : s.name ≡ name = same-name s.name name (find-passes (is_named name) s o.sessions at) in
@@ -71,8 +51,7 @@ pub prints-rounds : (start : OneThread) (heads : List Head) (history : List Entr
 prints-rounds start heads history sound accepted whole front e rest name number mentions state is command-is reply-is =
     let legal : Legal start heads (front ++ e ∷ rest) = subst (Legal start heads) is whole in
     let before = Legal-front start heads front (e ∷ rest) legal in
-    let o = state_after start heads front in
     let next = Legal-at start heads front e rest legal in
-    let says : Printed number mentions state ≡ reply_print (held o e.caller name) = rw (command-is, reply-is) at next.replies in
-    let found = printed-of o e.caller name number mentions state (session_of name o.sessions) refl says in
-    rw (command-is, reply-is) (shows start heads front name number mentions state found.0 (sound-after start heads accepted front sound before) (opened-after start heads accepted front sound before) found.1 found.2)
+    let says : Replies heads (state_after start heads front) e.caller (Print name) (Printed number mentions state) = rw (command-is, reply-is) at next.replies in
+    let p = answered heads (state_after start heads front) e.caller (Print name) (Printed number mentions state) says in
+    rw (command-is, reply-is) (shows start heads front e.caller name number mentions state (sound-after start heads accepted front sound before) (opened-after start heads accepted front sound before) p)

@@ -20,6 +20,10 @@ module _ (start : OneThread) (heads : List Head) where
   unfolding state_after
   state_after-snoc es e = fold-append (effect heads) start es (e ∷ [])
 
+  pub state_after-append : (es fs : List Entry) → state_after start heads (es ++ fs) ≡ state_after (state_after start heads es) heads fs
+  unfolding state_after
+  state_after-append es fs = fold-append (effect heads) start es fs
+
   pub Legal-snoc : (es : List Entry) (e : Entry) → Legal start heads es → IsNext start heads es e → Legal start heads (es ++ e ∷ [])
   Legal-snoc es e h k = EachPoint-snoc (IsNext start heads) es e h k
 

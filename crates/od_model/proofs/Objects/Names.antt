@@ -51,23 +51,25 @@ unique name seen (x ∷ xs) s h e = here_or_behind name seen xs x s (is_named na
 pub session-unique : (name : List ℕ) (sessions : List SessionState) (s : SessionState) → Distinct sessions → session_of name sessions ≡ Some s → Each (λ t. is_named name t ≡ true → t ≡ s) sessions
 session-unique name sessions s h e = unique name [] sessions s h e
 
+-- ## A session of a name is found where there is one
+
+pub found-any : (name : List ℕ) (xs : List SessionState) (s : SessionState) → session_of name xs ≡ Some s → list_any (is_named name) xs ≡ true
+found-any name [] s at = absurd (cc)
+found-any name (x ∷ xs) s at = here (is_named name x) (found-any name xs s) at
+  where
+    here : (b : Bool) → (session_of name xs ≡ Some s → list_any (is_named name) xs ≡ true) → cond b (Some x) (session_of name xs) ≡ Some s → (b || list_any (is_named name) xs) ≡ true
+    here true behind e = refl
+    here false behind e = behind e
+
+pub any-found : (name : List ℕ) (xs : List SessionState) → list_any (is_named name) xs ≡ true → (s : SessionState) × (session_of name xs ≡ Some s)
+any-found name [] h = absurd (cc)
+any-found name (x ∷ xs) h = here (is_named name x) (any-found name xs) h
+  where
+    here : (b : Bool) → (list_any (is_named name) xs ≡ true → (s : SessionState) × (session_of name xs ≡ Some s)) → (b || list_any (is_named name) xs) ≡ true → (s : SessionState) × (cond b (Some x) (session_of name xs) ≡ Some s)
+    here true behind e = (x, refl)
+    here false behind e = behind e
+
 -- ## Changes
-
-map-same : {X Y : Type 0} (f g : X → Y) (xs : List X) → Each (λ x. f x ≡ g x) xs → map f xs ≡ map g xs
-map-same f g [] h = refl
-map-same f g (x ∷ xs) h = rw (h.0, map-same f g xs h.1) refl
-
-agree_one : (f g : SessionState → SessionState) (t : SessionState) (b : Bool) → (b ≡ true → f t ≡ g t) → cond b (f t) t ≡ cond b (g t) t
-agree_one f g t true h = h refl
-agree_one f g t false h = refl
-
-agree_each : (name : List ℕ) (f g : SessionState → SessionState) (xs : List SessionState) → Each (λ t. is_named name t ≡ true → f t ≡ g t) xs → Each (λ t. change_one name f t ≡ change_one name g t) xs
-agree_each name f g [] h = tt
-agree_each name f g (t ∷ xs) h = (agree_one f g t (is_named name t) h.0, agree_each name f g xs h.1)
-
--- two changes that agree on the sessions of the name
-pub change-same : (name : List ℕ) (f g : SessionState → SessionState) (xs : List SessionState) → Each (λ t. is_named name t ≡ true → f t ≡ g t) xs → change name f xs ≡ change name g xs
-change-same name f g xs h = map-same (change_one name f) (change_one name g) xs (agree_each name f g xs h)
 
 each_one : (P : SessionState → Type 0) (f : SessionState → SessionState) (s : SessionState) (b : Bool) → P s → (b ≡ true → P (f s)) → P (cond b (f s) s)
 each_one P f s true h k = k refl
@@ -109,3 +111,7 @@ Distinct-kept g keeps xs h = rw (points-map g [] xs) (Each-map (λ p. list_any (
 
 pub Distinct-change : (name : List ℕ) (f : SessionState → SessionState) → ((s : SessionState) → (f s).name ≡ s.name) → (xs : List SessionState) → Distinct xs → Distinct (change name f xs)
 Distinct-change name f keeps xs h = Distinct-kept (change_one name f) (λ s. name_kept f keeps s (is_named name s)) xs h
+
+-- a name is there after a change that keeps the names as it was before
+pub any-change : (name asked : List ℕ) (f : SessionState → SessionState) → ((s : SessionState) → (f s).name ≡ s.name) → (xs : List SessionState) → list_any (is_named name) (change asked f xs) ≡ list_any (is_named name) xs
+any-change name asked f keeps xs = any-map (is_named name) (change_one asked f) xs ∙ any-kept name (change_one asked f) (λ s. name_kept f keeps s (is_named asked s)) xs
