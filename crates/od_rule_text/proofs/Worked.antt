@@ -1,0 +1,4 @@
+-- Texts worked out by hand, which the check computes.
+pub mod Faults
+pub mod RuleFiles
+pub mod Scalars

@@ -1,0 +1,5 @@
+-- The definitions of this crate.
+pub mod Blanks
+pub mod RuleFiles
+pub mod Scalars
+pub mod Statements

@@ -1,0 +1,6 @@
+//! Rule files and grammars: their types and limits, what can be wrong with them, and the laws of what their texts say.
+#![tactic(auto)]
+
+pub mod grammar_fault;
+pub mod limits;
+pub mod rule_file;
