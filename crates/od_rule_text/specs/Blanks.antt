@@ -1,15 +1,10 @@
 -- Blanks, and the lines of a rule file that say nothing.
-use Rattle.std.specs.Prelude.{ℕ, ◌==◌, ◌||◌, Bool, true, false, List, [], ◌∷◌, drop, if◌then◌else◌}
+use Rattle.std.specs.Prelude.{ℕ, ◌==◌, ◌||◌, Bool, true, List, [], ◌∷◌, drop, if◌then◌else◌}
 use Rattle.std.specs.List.{list_all, prefix_len}
 
 -- a blank is a space or a tab
 abbrev pub is_blank : ℕ → Bool
 is_blank c = c == 32 || c == 9
-
--- whether a text begins with this byte
-abbrev pub begins_with : ℕ → List ℕ → Bool
-begins_with c [] = false
-begins_with c (b ∷ text) = b == c
 
 -- a list without the elements at its end that pass a test
 abbrev pub without_last : {X : Type 0} → (X → Bool) → List X → List X

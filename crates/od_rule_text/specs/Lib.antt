@@ -1,5 +1,12 @@
 -- The definitions of this crate.
 pub mod Blanks
+pub mod Expansion
+pub mod Expressions
+pub mod Grammars
+pub mod Items
+pub mod Labels
+pub mod Priorities
 pub mod RuleFiles
 pub mod Scalars
 pub mod Statements
+pub mod Texts

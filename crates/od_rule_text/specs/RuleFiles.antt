@@ -10,7 +10,7 @@ use Rattle.od_rule_text.specs.declared.rule_file.YamlKind.{YamlKind}
 use Rattle.od_rule_text.specs.declared.rule_file.YamlKind.TheVariants.{Tab, Indent, Item, BadKey, SameKey, BadScalar, NoRules}
 use Rattle.od_rule_text.specs.declared.rule_file.YamlFault.{YamlFault}
 use Rattle.od_rule_text.specs.declared.rule_file.YamlFault.TheVariants as fault
-use Rattle.od_rule_text.specs.Blanks.{begins_with}
+use Rattle.od_rule_text.specs.Texts.{begins_with}
 use Rattle.od_rule_text.specs.Scalars.{scalar}
 use Rattle.od_rule_text.specs.Statements.{Statement, Entry, is_item, entry_of, statements}
 

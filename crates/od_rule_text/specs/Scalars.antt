@@ -3,7 +3,8 @@ use Rattle.std.specs.Prelude.{ℕ, ◌-◌, ◌==◌, ◌&&◌, ◌||◌, not, B
 use Rattle.std.specs.Option.{option_map, option_and_then}
 use Rattle.std.specs.List.{list_any, take_while}
 use Rattle.std.specs.Str.{bytes_eq}
-use Rattle.od_rule_text.specs.Blanks.{is_blank, is_blank_line, begins_with, without_last, past_blanks, without_outer_blanks, indentation, is_nothing_or_comment}
+use Rattle.od_rule_text.specs.Texts.{begins_with}
+use Rattle.od_rule_text.specs.Blanks.{is_blank, is_blank_line, without_last, past_blanks, without_outer_blanks, indentation, is_nothing_or_comment}
 
 -- ## Plain
 

@@ -4,7 +4,8 @@ use Rattle.std.specs.Prelude.{ℕ, zero, suc, ◌+◌, ◌&&◌, Bool, List, [],
 use Rattle.std.specs.List.{starts_with}
 use Rattle.od_text.specs.Cuts.{split_once}
 use Rattle.od_language.specs.Identifier.{is_identifier}
-use Rattle.od_rule_text.specs.Blanks.{begins_with, indentation, says_nothing}
+use Rattle.od_rule_text.specs.Texts.{begins_with}
+use Rattle.od_rule_text.specs.Blanks.{indentation, says_nothing}
 use Rattle.od_rule_text.specs.Scalars.{scalar_lines}
 
 -- a line's number from 1, its indentation, what stands behind that, and the lines of its literal
