@@ -1,2 +1,6 @@
 -- The lemmas of this crate.
+pub mod GrammarsRead
+pub mod Outcomes
+pub mod PlainTexts
+pub mod TextFaults
 pub mod Worked

@@ -1,5 +1,5 @@
 -- What a text becomes when its variables are replaced.
-use Rattle.std.specs.Prelude.{ℕ, zero, suc, ◌+◌, ◌==◌, ◌&&◌, not, Bool, false, List, [], ◌∷◌, ◌++◌, length, drop, if◌then◌else◌, Option, None, Some, Result, Ok, Err}
+use Rattle.std.specs.Prelude.{ℕ, zero, suc, ◌+◌, ◌==◌, ◌&&◌, ◌||◌, not, Bool, false, List, [], ◌∷◌, ◌++◌, length, drop, if◌then◌else◌, Option, None, Some, Result, Ok, Err}
 use Rattle.std.specs.List.{filter, find, take_while}
 use Rattle.std.specs.Str.{bytes_eq}
 use Rattle.od_language.specs.Identifier.{is_identifier, in_identifier}
@@ -25,6 +25,11 @@ name_before_brace text = closed_name (take_while in_identifier text) (drop (leng
 abbrev pub begins_with_opening : List ℕ → Bool
 begins_with_opening [] = false
 begins_with_opening (c ∷ text) = c == 36 && begins_with 123 text
+
+-- whether `${` stands somewhere
+abbrev pub has_opening : List ℕ → Bool
+has_opening [] = false
+has_opening (c ∷ text) = begins_with_opening (c ∷ text) || has_opening text
 
 -- the variable that occurs at the front of a text: `${`, an identifier and `}`
 abbrev pub occurrence : List ℕ → Option (List ℕ)

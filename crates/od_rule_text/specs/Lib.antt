@@ -5,6 +5,7 @@ pub mod Expressions
 pub mod Grammars
 pub mod Items
 pub mod Labels
+pub mod Laws
 pub mod Priorities
 pub mod RuleFiles
 pub mod Scalars

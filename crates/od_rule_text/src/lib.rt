@@ -4,3 +4,4 @@
 pub mod grammar_fault;
 pub mod limits;
 pub mod rule_file;
+pub mod rule_laws;

@@ -1,0 +1,30 @@
+//! Laws of what rule files and grammars say, each the contract of a function that does nothing.
+//!
+//! The laws of grammars hold however the texts of patterns are read.
+ghost use Rattle.od_rule_text.specs.Laws.{HasTextFaults, KeepsOrder, KeepsPlainTexts, KeepsWithMoreRoom, ReadsGrammars};
+
+/// A text in which no `${` stands is its own expansion, whatever the variables.
+pub fn keeps_plain_texts()
+    ensures { KeepsPlainTexts }
+{}
+
+/// A grammar has a rule for each item of its rule file, in the order of the file.
+pub fn keeps_order()
+    ensures { KeepsOrder }
+{}
+
+/// The grammar of a text has its kind and its text.
+/// The names of its rules differ, labels that they name are those of rules, and there is room for its expressions.
+pub fn reads_grammars()
+    ensures { ReadsGrammars }
+{}
+
+/// Where there is more room for expressions, the same grammar is read.
+pub fn keeps_with_more_room()
+    ensures { KeepsWithMoreRoom }
+{}
+
+/// The first fault of a text is neither want of memory nor an expression that was refused.
+pub fn has_text_faults()
+    ensures { HasTextFaults }
+{}
