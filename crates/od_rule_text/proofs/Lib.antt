@@ -2,5 +2,6 @@
 pub mod GrammarsRead
 pub mod Outcomes
 pub mod PlainTexts
+pub mod Priorities
 pub mod TextFaults
 pub mod Worked

@@ -1,5 +1,5 @@
 -- Laws of what rule files and grammars say.
-use Rattle.std.specs.Prelude.{◌≡◌, ◌≢◌, ◌↔◌, ℕ, ◌≤◌, ◌<◌, false, true, List, [], ◌∷◌, ◌++◌, length, map, Some, Result, Ok, Err, Bool, codes, decimal}
+use Rattle.std.specs.Prelude.{◌≡◌, ◌≢◌, ◌↔◌, ℕ, ◌≤◌, ◌<◌, false, true, List, [], ◌∷◌, ◌++◌, length, map, None, Some, Result, Ok, Err, Bool, codes, decimal}
 use Rattle.std.specs.List.{AllZip}
 use Rattle.od_text.specs.Lists.{Each, EachPoint}
 use Rattle.od_pattern.specs.declared.grammar.GrammarKind.{GrammarKind}
@@ -85,3 +85,15 @@ IsTextFault f = Unit {0}
 abbrev pub HasTextFaults : Type 0
 HasTextFaults = (p : Patterns) (kind : GrammarKind) (text : List ℕ) (room : ℕ) (f : GrammarFault) →
     read_by p kind text room ≡ Err f → IsTextFault f
+
+-- ## Priorities
+
+-- what may be written for a priority
+pub data IsWritten (text : List ℕ) (p : Priority) : Type 0 where
+  one_round : (n : ℕ) → 1 ≤ n → n ≤ LAST_ROUND → text ≡ decimal n → p ≡ record { first = n; last = Some n } → IsWritten text p
+  range : (n m : ℕ) → 1 ≤ n → n ≤ m → m ≤ LAST_ROUND → text ≡ decimal n ++ 45 ∷ decimal m → p ≡ record { first = n; last = Some m } → IsWritten text p
+  endless : (n : ℕ) → 1 ≤ n → n ≤ LAST_ROUND → text ≡ decimal n ++ 43 ∷ [] → p ≡ record { first = n; last = None } → IsWritten text p
+
+-- a text is a priority exactly where it is written for it
+abbrev pub ReadsPriorities : Type 0
+ReadsPriorities = (text : List ℕ) (p : Priority) → (priority_of text ≡ Some p) ↔ IsWritten text p

@@ -1,7 +1,7 @@
 //! Laws of what rule files and grammars say, each the contract of a function that does nothing.
 //!
 //! The laws of grammars hold however the texts of patterns are read.
-ghost use Rattle.od_rule_text.specs.Laws.{HasTextFaults, KeepsOrder, KeepsPlainTexts, KeepsWithMoreRoom, ReadsGrammars};
+ghost use Rattle.od_rule_text.specs.Laws.{HasTextFaults, KeepsOrder, KeepsPlainTexts, KeepsWithMoreRoom, ReadsGrammars, ReadsPriorities};
 
 /// A text in which no `${` stands is its own expansion, whatever the variables.
 pub fn keeps_plain_texts()
@@ -27,4 +27,9 @@ pub fn keeps_with_more_room()
 /// The first fault of a text is neither want of memory nor an expression that was refused.
 pub fn has_text_faults()
     ensures { HasTextFaults }
+{}
+
+/// A text is a priority exactly where it is `n`, `n-m` or `n+`, in decimal digits, with 1 <= n <= m <= 100.
+pub fn reads_priorities()
+    ensures { ReadsPriorities }
 {}
