@@ -10,13 +10,12 @@ use Rattle.od_pattern.specs.declared.grammar.GrammarKind.{GrammarKind}
 use Rattle.od_pattern.specs.declared.grammar.GrammarKind.TheVariants.{RuleFile as OfRules, Query}
 use Rattle.od_pattern.specs.declared.grammar.Grammar.{Grammar}
 use Rattle.od_pattern.specs.declared.rule.Rule.{Rule}
-use Rattle.od_pattern.specs.declared.rule.Hop.{Hop}
-use Rattle.od_pattern.specs.declared.rule.EventRule.{EventRule}
 use Rattle.od_pattern.specs.declared.rule.Body.{Body}
 use Rattle.od_pattern.specs.declared.rule.Priority.{Priority}
 use Rattle.od_language.specs.Identifier.{is_identifier}
 use Rattle.od_rule_text.specs.declared.grammar_fault.GrammarFault.{GrammarFault}
 use Rattle.od_rule_text.specs.declared.grammar_fault.GrammarLimit.TheVariants.{GrammarBytes, Rules, Vars, PatternBytes, Regexes}
+use Rattle.od_rule_text.specs.declared.limits.TheConstants.{PATTERN_BYTES}
 use Rattle.od_rule_text.specs.declared.rule_file.KeyText.{KeyText}
 use Rattle.od_rule_text.specs.declared.rule_file.RuleFile.{RuleFile}
 use Rattle.od_rule_text.specs.declared.rule_file.YamlKind.{YamlKind}
@@ -26,15 +25,9 @@ use Rattle.od_rule_text.specs.Expansion.{Misfit, unknown, cycle, expanded}
 use Rattle.od_rule_text.specs.Priorities.{rule_priority}
 use Rattle.od_rule_text.specs.Items.{Fields, RuleType, type_of, fields_with, fields_of, value_of, has_rule_keys, is_rule_name}
 use Rattle.od_rule_text.specs.Expressions.{Appearance, first_appearances, expressions_of}
-use Rattle.od_rule_text.specs.Grammars.{Parsed, limit_of, names_labels_of, label_fault, room_fault, whole_fault, with_body, body_of, with_text, with_priority, with_type, with_fields, rule_of, rules_of, file_rules, text_rules, query_entries, grammar_with, grammar_read}
-use Rattle.od_rule_text.specs.Laws.{Patterns, IsRuleOf, KeepsOrder, HasNewName, IsOfText, ReadsGrammars, KeepsWithMoreRoom}
+use Rattle.od_rule_text.specs.Grammars.{Parsed, Patterns, limit_of, names_labels_of, label_fault, room_fault, whole_fault, with_body, body_of, with_text, with_priority, with_type, with_fields, rule_of, rules_of, file_rules, text_rules, query_entries, grammar_with, grammar_read}
+use Rattle.od_rule_text.specs.Laws.{IsBodyOf, IsRuleOf, HasNewName, IsOfText}
 use Rattle.od_rule_text.proofs.Outcomes.{same_ok, not_false, behind_refusal, behind_test, within-ok, and_then-ok, one_more-ok, unless-ok, no_fault, no_fault_behind, neither_fault}
-
--- a rule has the name and the label of some fields, and the priority that they write
-record IsOfFields (f : Fields) (rule : Rule) : Type 0 where
-  name : rule.name ≡ f.name
-  label : rule.label ≡ f.label
-  priority : rule_priority f.priority ≡ Some rule.priority
 
 -- what a rule shows of the tests that it passed, behind the rules of these names
 record Passed (names : List (List ℕ)) (rule : Rule) : Type 0 where
@@ -42,38 +35,52 @@ record Passed (names : List (List ℕ)) (rule : Rule) : Type 0 where
   named : is_rule_name rule.name ≡ true
   labelled : is_identifier rule.label ≡ true
 
-module _ (hop_of : List ℕ → Parsed Hop) (event_of : List ℕ → Parsed EventRule) (expressions_in : Body → List (List ℕ)) where
+module _ (patterns : Patterns) where
   -- ## One rule
 
-  body_tested : (n : ℕ) (f : Fields) (p : Priority) (b : Parsed Body) (r : Rule) → rule_priority f.priority ≡ Some p → with_body n f p b ≡ Ok r → IsOfFields f r
-  body_tested n f p (Err e) r w h = absurd (cc)
-  body_tested n f p (Ok body) r w h =
-      subst (IsOfFields f) (same_ok (with_body n f p (Ok body)) _ r refl h) (record { name = refl; label = refl; priority = w })
+  -- a rule is what some fields say
+  record IsOfFields (vars : List KeyText) (f : Fields) (rule : Rule) : Type 0 where
+    name : rule.name ≡ f.name
+    label : rule.label ≡ f.label
+    priority : rule_priority f.priority ≡ Some rule.priority
+    body : IsBodyOf patterns vars f.type f.pattern rule.body
 
-  text_tested : (n : ℕ) (f : Fields) (t : RuleType) (p : Priority) (x : Result (List ℕ) Misfit) (r : Rule) → rule_priority f.priority ≡ Some p →
-      with_text hop_of event_of expressions_in n f t p x ≡ Ok r → IsOfFields f r
-  text_tested n f t p (Err unknown) r w h = absurd (cc)
-  text_tested n f t p (Err (cycle name)) r w h = absurd (cc)
-  text_tested n f t p (Ok text) r w h =
-      body_tested n f p (body_of hop_of event_of expressions_in t text) r w (within-ok PatternBytes text _ r h).1
+  body_tested : (vars : List KeyText) (n : ℕ) (f : Fields) (t : RuleType) (p : Priority) (text : List ℕ) (b : Parsed Body) (r : Rule) → rule_priority f.priority ≡ Some p →
+      type_of f.type ≡ Some t → expanded vars f.pattern ≡ Ok text → length text ≤ PATTERN_BYTES → body_of patterns t text ≡ b → with_body n f p b ≡ Ok r → IsOfFields vars f r
+  body_tested vars n f t p text (Err e) r wp wt wx small wb h = absurd (cc)
+  body_tested vars n f t p text (Ok body) r wp wt wx small wb h =
+      subst (IsOfFields vars f) (same_ok (with_body n f p (Ok body)) _ r refl h) (record {
+        name = refl;
+        label = refl;
+        priority = wp;
+        body = record { type = t; text = text; typed = wt; expands = wx; small = small; reads = wb };
+      })
+
+  text_tested : (vars : List KeyText) (n : ℕ) (f : Fields) (t : RuleType) (p : Priority) (x : Result (List ℕ) Misfit) (r : Rule) → rule_priority f.priority ≡ Some p →
+      type_of f.type ≡ Some t → expanded vars f.pattern ≡ x → with_text patterns n f t p x ≡ Ok r → IsOfFields vars f r
+  text_tested vars n f t p (Err unknown) r wp wt wx h = absurd (cc)
+  text_tested vars n f t p (Err (cycle name)) r wp wt wx h = absurd (cc)
+  text_tested vars n f t p (Ok text) r wp wt wx h =
+      let fits = within-ok PatternBytes text _ r h in
+      body_tested vars n f t p text (body_of patterns t text) r wp wt wx fits.0 refl fits.1
 
   priority_tested : (vars : List KeyText) (n : ℕ) (f : Fields) (t : RuleType) (o : Option Priority) (r : Rule) → rule_priority f.priority ≡ o →
-      with_priority hop_of event_of expressions_in vars n f t o ≡ Ok r → IsOfFields f r
-  priority_tested vars n f t None r w h = absurd (cc)
-  priority_tested vars n f t (Some p) r w h = text_tested n f t p (expanded vars f.pattern) r w h
+      type_of f.type ≡ Some t → with_priority patterns vars n f t o ≡ Ok r → IsOfFields vars f r
+  priority_tested vars n f t None r wp wt h = absurd (cc)
+  priority_tested vars n f t (Some p) r wp wt h = text_tested vars n f t p (expanded vars f.pattern) r wp wt refl h
 
-  type_tested : (vars : List KeyText) (n : ℕ) (f : Fields) (o : Option RuleType) (r : Rule) → with_type hop_of event_of expressions_in vars n f o ≡ Ok r → IsOfFields f r
-  type_tested vars n f None r h = absurd (cc)
-  type_tested vars n f (Some t) r h = priority_tested vars n f t (rule_priority f.priority) r refl h
+  type_tested : (vars : List KeyText) (n : ℕ) (f : Fields) (o : Option RuleType) (r : Rule) → type_of f.type ≡ o → with_type patterns vars n f o ≡ Ok r → IsOfFields vars f r
+  type_tested vars n f None r wt h = absurd (cc)
+  type_tested vars n f (Some t) r wt h = priority_tested vars n f t (rule_priority f.priority) r refl wt h
 
   -- the tests in their order
-  tested : (vars : List KeyText) (n : ℕ) (names : List (List ℕ)) (f : Fields) (r : Rule) → with_fields hop_of event_of expressions_in vars n names (Some f) ≡ Ok r →
-      IsOfFields f r × Passed names r
+  tested : (vars : List KeyText) (n : ℕ) (names : List (List ℕ)) (f : Fields) (r : Rule) → with_fields patterns vars n names (Some f) ≡ Ok r →
+      IsOfFields vars f r × Passed names r
   tested vars n names f r h =
       let named = behind_refusal (not (is_rule_name f.name)) _ _ r h in
       let new = behind_refusal (is_among names f.name) _ _ r named.1 in
       let labelled = behind_refusal (not (is_identifier f.label)) _ _ r new.1 in
-      let has = type_tested vars n f (type_of f.type) r labelled.1 in (
+      let has = type_tested vars n f (type_of f.type) r refl labelled.1 in (
         has,
         record {
           new = ap (is_among names) has.name ∙ new.0;
@@ -82,34 +89,55 @@ module _ (hop_of : List ℕ → Parsed Hop) (event_of : List ℕ → Parsed Even
         },
       )
 
-  -- of an item that has these texts for the keys of a rule
+  -- the texts that an item must have
+  record HasTexts (vars : List KeyText) (name label type priority pattern : Option (List ℕ)) (names : List (List ℕ)) (rule : Rule) : Type 0 where
+    fields : Fields
+    has_name : name ≡ Some fields.name
+    has_label : label ≡ Some fields.label
+    has_type : type ≡ Some fields.type
+    has_priority : priority ≡ fields.priority
+    has_pattern : pattern ≡ Some fields.pattern
+    is : IsOfFields vars fields rule
+    passed : Passed names rule
+
   item_tested : (vars : List KeyText) (n : ℕ) (names : List (List ℕ)) (a b c p d : Option (List ℕ)) (r : Rule) →
-      with_fields hop_of event_of expressions_in vars n names (fields_with a b c p d) ≡ Ok r →
-      (a ≡ Some r.name) × (b ≡ Some r.label) × (rule_priority p ≡ Some r.priority) × Passed names r
+      with_fields patterns vars n names (fields_with a b c p d) ≡ Ok r → HasTexts vars a b c p d names r
   item_tested vars n names None b c p d r h = absurd (cc)
   item_tested vars n names (Some name) None c p d r h = absurd (cc)
   item_tested vars n names (Some name) (Some label) None p d r h = absurd (cc)
   item_tested vars n names (Some name) (Some label) (Some type) p None r h = absurd (cc)
   item_tested vars n names (Some name) (Some label) (Some type) p (Some pattern) r h =
-      let t = tested vars n names (record { name = name; label = label; type = type; priority = p; pattern = pattern }) r h in
-      (ap (λ x. Some x) (sym t.0.name), ap (λ x. Some x) (sym t.0.label), t.0.priority, t.1)
+      let f : Fields = record { name = name; label = label; type = type; priority = p; pattern = pattern } in
+      let t = tested vars n names f r h in
+      record { fields = f; has_name = refl; has_label = refl; has_type = refl; has_priority = refl; has_pattern = refl; is = t.0; passed = t.1 }
 
-  rule_tested : (vars : List KeyText) (n : ℕ) (names : List (List ℕ)) (item : List KeyText) (r : Rule) → rule_of hop_of event_of expressions_in vars n names item ≡ Ok r →
-      IsRuleOf item r × Passed names r
+  rule_tested : (vars : List KeyText) (n : ℕ) (names : List (List ℕ)) (item : List KeyText) (r : Rule) → rule_of patterns vars n names item ≡ Ok r →
+      IsRuleOf patterns vars item r × Passed names r
   rule_tested vars n names item r h =
       let i = item_tested vars n names (value_of (codes "name") item) (value_of (codes "label") item) (value_of (codes "type") item) (value_of (codes "priority") item) (value_of (codes "pattern") item) r
-      (behind_test (has_rule_keys item) _ _ r h).1 in
-      (record { name = i.0; label = i.1; priority = i.2 }, i.3)
+      (behind_test (has_rule_keys item) _ _ r h).1 in (
+        record {
+          name = i.has_name ∙ ap (λ x. Some x) (sym i.is.name);
+          label = i.has_label ∙ ap (λ x. Some x) (sym i.is.label);
+          priority = ap rule_priority i.has_priority ∙ i.is.priority;
+          type = i.fields.type;
+          pattern = i.fields.pattern;
+          has_type = i.has_type;
+          has_pattern = i.has_pattern;
+          body = i.is.body;
+        },
+        i.passed,
+      )
 
   -- ## All rules
 
   rules_in_order : (vars : List KeyText) (n : ℕ) (names : List (List ℕ)) (items : List (List KeyText)) (rules : List Rule) →
-      rules_of hop_of event_of expressions_in vars n names items ≡ Ok rules → AllZip IsRuleOf items rules
-  rules_in_order vars n names [] rules h = let none : [] ≡ rules = cc in subst (AllZip IsRuleOf []) none tt
+      rules_of patterns vars n names items ≡ Ok rules → AllZip (IsRuleOf patterns vars) items rules
+  rules_in_order vars n names [] rules h = let none : [] ≡ rules = cc in subst (AllZip (IsRuleOf patterns vars) []) none tt
   rules_in_order vars n names (item ∷ items) rules h =
-      let a = and_then-ok (rule_of hop_of event_of expressions_in vars n names item) _ rules h in
+      let a = and_then-ok (rule_of patterns vars n names item) _ rules h in
       let o = one_more-ok a.0 _ rules a.2 in
-      subst (AllZip IsRuleOf (item ∷ items)) (sym o.2) ((rule_tested vars n names item a.0 a.1).0, rules_in_order vars (n + 1) (names ++ a.0.name ∷ []) items o.0 o.1)
+      subst (AllZip (IsRuleOf patterns vars) (item ∷ items)) (sym o.2) ((rule_tested vars n names item a.0 a.1).0, rules_in_order vars (n + 1) (names ++ a.0.name ∷ []) items o.0 o.1)
 
   -- what the rules behind others have
   record ArePassed (before rules : List Rule) : Type 0 where
@@ -118,15 +146,15 @@ module _ (hop_of : List ℕ → Parsed Hop) (event_of : List ℕ → Parsed Even
     labelled : Each (λ r. is_identifier r.label ≡ true) rules
 
   rules_passed : (vars : List KeyText) (n : ℕ) (before : List Rule) (items : List (List KeyText)) (rules : List Rule) →
-      rules_of hop_of event_of expressions_in vars n (map (λ r. r.name) before) items ≡ Ok rules → ArePassed before rules
+      rules_of patterns vars n (map (λ r. r.name) before) items ≡ Ok rules → ArePassed before rules
   rules_passed vars n before [] rules h =
       let none : [] ≡ rules = cc in subst (ArePassed before) none (record { distinct = tt; named = tt; labelled = tt })
   rules_passed vars n before (item ∷ items) rules h =
-      let a = and_then-ok (rule_of hop_of event_of expressions_in vars n (map (λ r. r.name) before) item) _ rules h in
+      let a = and_then-ok (rule_of patterns vars n (map (λ r. r.name) before) item) _ rules h in
       let o = one_more-ok a.0 _ rules a.2 in
       let passed = (rule_tested vars n (map (λ r. r.name) before) item a.0 a.1).1 in
       let more = rules_passed vars (n + 1) (before ++ a.0 ∷ []) items o.0
-      (subst (λ names. rules_of hop_of event_of expressions_in vars (n + 1) names items ≡ Ok o.0) (sym (map-append (λ (r : Rule). r.name) before (a.0 ∷ []))) o.1) in
+      (subst (λ names. rules_of patterns vars (n + 1) names items ≡ Ok o.0) (sym (map-append (λ (r : Rule). r.name) before (a.0 ∷ []))) o.1) in
       subst (ArePassed before) (sym o.2) (record {
         distinct = (passed.new, more.distinct);
         named = (passed.named, more.named);
@@ -135,35 +163,35 @@ module _ (hop_of : List ℕ → Parsed Hop) (event_of : List ℕ → Parsed Even
 
   -- ## The grammar
 
-  file_passed : (x : Result RuleFile (ℕ × YamlKind)) (rules : List Rule) → file_rules hop_of event_of expressions_in x ≡ Ok rules →
-      (file : RuleFile) × (x ≡ Ok file) × (rules_of hop_of event_of expressions_in file.vars 1 [] file.rules ≡ Ok rules)
+  file_passed : (x : Result RuleFile (ℕ × YamlKind)) (rules : List Rule) → file_rules patterns x ≡ Ok rules →
+      (file : RuleFile) × (x ≡ Ok file) × (rules_of patterns file.vars 1 [] file.rules ≡ Ok rules)
   file_passed (Err f) rules h = absurd (cc)
   file_passed (Ok file) rules h = (file, refl, (within-ok Vars file.vars _ rules (within-ok Rules file.rules _ rules h).1).1)
 
-  text_passed : (kind : GrammarKind) (text : List ℕ) (rules : List Rule) → text_rules hop_of event_of expressions_in kind text ≡ Ok rules → ArePassed [] rules
+  text_passed : (kind : GrammarKind) (text : List ℕ) (rules : List Rule) → text_rules patterns kind text ≡ Ok rules → ArePassed [] rules
   text_passed OfRules text rules h = let f = file_passed (rule_file_of text) rules h in rules_passed f.0.vars 1 [] f.0.rules rules f.2
   text_passed Query text rules h = rules_passed [] 1 [] (query_entries text ∷ []) rules h
 
   -- a grammar that is read has the rules of its text, and no fault as a whole
   record Whole (kind : GrammarKind) (text : List ℕ) (room : ℕ) (grammar : Grammar) : Type 0 where
-    rules : text_rules hop_of event_of expressions_in kind text ≡ Ok grammar.rules
-    none : whole_fault hop_of event_of expressions_in room grammar.rules ≡ None
+    rules : text_rules patterns kind text ≡ Ok grammar.rules
+    none : whole_fault patterns room grammar.rules ≡ None
     is : grammar ≡ record { kind = kind; text = text; rules = grammar.rules }
 
-  whole : (kind : GrammarKind) (text : List ℕ) (room : ℕ) (grammar : Grammar) → grammar_read hop_of event_of expressions_in kind text room ≡ Ok grammar → Whole kind text room grammar
+  whole : (kind : GrammarKind) (text : List ℕ) (room : ℕ) (grammar : Grammar) → grammar_read patterns kind text room ≡ Ok grammar → Whole kind text room grammar
   unfolding grammar_read
   whole kind text room grammar h =
-      let a = and_then-ok (text_rules hop_of event_of expressions_in kind text) _ grammar (within-ok GrammarBytes text _ grammar h).1 in
-      let u = unless-ok (whole_fault hop_of event_of expressions_in room a.0) _ grammar a.2 in
+      let a = and_then-ok (text_rules patterns kind text) _ grammar (within-ok GrammarBytes text _ grammar h).1 in
+      let u = unless-ok (whole_fault patterns room a.0) _ grammar a.2 in
       let same : a.0 ≡ grammar.rules = ap (λ (g : Grammar). g.rules) (sym u.1) in
       record {
         rules = a.1 ∙ ap (λ rules. Ok rules) same;
-        none = subst (λ rules. whole_fault hop_of event_of expressions_in room rules ≡ None) same u.0;
+        none = subst (λ rules. whole_fault patterns room rules ≡ None) same u.0;
         is = u.1 ∙ ap (λ (rules : List Rule). record { kind = kind; text = text; rules = rules }) same;
       }
 
-  keeps_order : (text : List ℕ) (room : ℕ) (grammar : Grammar) → grammar_read hop_of event_of expressions_in OfRules text room ≡ Ok grammar →
-      (file : RuleFile) × (rule_file_of text ≡ Ok file) × AllZip IsRuleOf file.rules grammar.rules
+  pub keeps_order : (text : List ℕ) (room : ℕ) (grammar : Grammar) → grammar_read patterns OfRules text room ≡ Ok grammar →
+      (file : RuleFile) × (rule_file_of text ≡ Ok file) × AllZip (IsRuleOf patterns file.vars) file.rules grammar.rules
   keeps_order text room grammar h =
       let f = file_passed (rule_file_of text) grammar.rules (whole OfRules text room grammar h).rules in
       (f.0, f.1, rules_in_order f.0.vars 1 [] f.0.rules grammar.rules f.2)
@@ -176,11 +204,11 @@ module _ (hop_of : List ℕ → Parsed Hop) (event_of : List ℕ → Parsed Even
       let k = no_fault_behind (names_labels_of rules r) (label_fault rules (n + 1) more) _ h in
       (k.0, labels_known rules (n + 1) more k.1)
 
-  within_room : (room : ℕ) (rules : List Rule) → room_fault hop_of event_of expressions_in room rules ≡ None → length (first_appearances expressions_in rules) ≤ room
-  within_room room rules h = ltb-false room _ (no_fault (nat_lt room (length (first_appearances expressions_in rules))) _ h)
+  within_room : (room : ℕ) (rules : List Rule) → room_fault patterns room rules ≡ None → length (first_appearances patterns.expressions_in rules) ≤ room
+  within_room room rules h = ltb-false room _ (no_fault (nat_lt room (length (first_appearances patterns.expressions_in rules))) _ h)
 
-  reads_grammars : (kind : GrammarKind) (text : List ℕ) (room : ℕ) (grammar : Grammar) → grammar_read hop_of event_of expressions_in kind text room ≡ Ok grammar →
-      IsOfText expressions_in kind text room grammar
+  pub reads_grammars : (kind : GrammarKind) (text : List ℕ) (room : ℕ) (grammar : Grammar) → grammar_read patterns kind text room ≡ Ok grammar →
+      IsOfText patterns kind text room grammar
   reads_grammars kind text room grammar h =
       let w = whole kind text room grammar h in
       let passed = text_passed kind text grammar.rules w.rules in
@@ -192,29 +220,20 @@ module _ (hop_of : List ℕ → Parsed Hop) (event_of : List ℕ → Parsed Even
         named = passed.named;
         labelled = passed.labelled;
         known = labels_known grammar.rules 1 grammar.rules n.0;
-        fits = rw (length-map (first_appearances expressions_in grammar.rules) (λ (a : Appearance). a.expression)) (within_room room grammar.rules n.1);
+        fits = rw (length-map (first_appearances patterns.expressions_in grammar.rules) (λ (a : Appearance). a.expression)) (within_room room grammar.rules n.1);
       }
 
   -- with more room there is no fault either
-  room_kept : (room more : ℕ) (rules : List Rule) → room ≤ more → whole_fault hop_of event_of expressions_in room rules ≡ None → whole_fault hop_of event_of expressions_in more rules ≡ None
+  room_kept : (room more : ℕ) (rules : List Rule) → room ≤ more → whole_fault patterns room rules ≡ None → whole_fault patterns more rules ≡ None
   room_kept room more rules le h =
       let n = neither_fault (label_fault rules 1 rules) _ h in
-      let fits : length (first_appearances expressions_in rules) ≤ more = omega (arith, le, within_room room rules n.1) in
+      let fits : length (first_appearances patterns.expressions_in rules) ≤ more = omega (arith, le, within_room room rules n.1) in
       rw (n.0, le-ltb _ _ fits) refl
 
-  keeps_with_more_room : (kind : GrammarKind) (text : List ℕ) (room more : ℕ) (grammar : Grammar) → room ≤ more →
-      grammar_read hop_of event_of expressions_in kind text room ≡ Ok grammar → grammar_read hop_of event_of expressions_in kind text more ≡ Ok grammar
+  pub keeps_with_more_room : (kind : GrammarKind) (text : List ℕ) (room more : ℕ) (grammar : Grammar) → room ≤ more →
+      grammar_read patterns kind text room ≡ Ok grammar → grammar_read patterns kind text more ≡ Ok grammar
   unfolding grammar_read
   keeps_with_more_room kind text room more grammar le h =
       let w = whole kind text room grammar h in
       let small = (behind_refusal (nat_lt (limit_of GrammarBytes) (length text)) _ _ grammar h).0 in
       rw (small, w.rules, room_kept room more grammar.rules le w.none) (ap (λ g. Ok g) (sym w.is))
-
-pub keeps_order_always : KeepsOrder
-keeps_order_always p = keeps_order p.hop_of p.event_of p.expressions_in
-
-pub reads_grammars_always : ReadsGrammars
-reads_grammars_always p = reads_grammars p.hop_of p.event_of p.expressions_in
-
-pub keeps_with_more_room_always : KeepsWithMoreRoom
-keeps_with_more_room_always p = keeps_with_more_room p.hop_of p.event_of p.expressions_in

@@ -33,6 +33,13 @@ use Rattle.od_rule_text.specs.Texts.{is_among}
 abbrev pub Parsed : Type 0 → Type 0
 Parsed X = Result X (ℕ × PatternKind)
 
+-- How patterns are read: by `hop_of`, and in a rule of the type event by `event_of`.
+-- What was read has the regular expressions `expressions_in`, in the order of the text.
+pub record Patterns : Type 0 where
+  pub hop_of : List ℕ → Parsed Hop
+  pub event_of : List ℕ → Parsed EventRule
+  pub expressions_in : Body → List (List ℕ)
+
 -- ## Limits
 
 abbrev pub limit_of : GrammarLimit → ℕ
@@ -105,15 +112,13 @@ refusal accepts n [] = None
 refusal accepts n (a ∷ more) = if accepts a.expression then refusal accepts (n + 1) more else Some (fault.RegexRefused a.rule n)
 
 -- ## From a text to its grammar
--- A pattern's text is read by `hop_of`, and by `event_of` in a rule of the type event;
--- `expressions_in` gives the regular expressions of what was read, in the order of the text.
-module _ (hop_of : List ℕ → Parsed Hop) (event_of : List ℕ → Parsed EventRule) (expressions_in : Body → List (List ℕ)) where
+module _ (patterns : Patterns) where
   -- ## One rule, of the number n from 1
 
   -- the body of a rule
   abbrev pub body_of : RuleType → List ℕ → Parsed Body
-  body_of basic text = read_as Basic (hop_of text)
-  body_of event text = read_as Event (event_of text)
+  body_of basic text = read_as Basic (patterns.hop_of text)
+  body_of event text = read_as Event (patterns.event_of text)
 
   abbrev pub with_text : (n : ℕ) → Fields → RuleType → Priority → Result (List ℕ) Misfit → Result Rule GrammarFault
   with_text n f type priority (Err unknown) = Err (fault.UnknownVar n)
@@ -163,7 +168,7 @@ module _ (hop_of : List ℕ → Parsed Hop) (event_of : List ℕ → Parsed Even
 
   -- that the different expressions of rules are more than there is room for
   abbrev pub room_fault : (room : ℕ) → List Rule → Option GrammarFault
-  room_fault room rules = if nat_lt room (length (first_appearances expressions_in rules)) then Some (passed Regexes) else None
+  room_fault room rules = if nat_lt room (length (first_appearances patterns.expressions_in rules)) then Some (passed Regexes) else None
 
   -- unknown labels of all rules, then more expressions than there is room for
   abbrev pub whole_fault : (room : ℕ) → List Rule → Option GrammarFault
@@ -180,7 +185,7 @@ module _ (hop_of : List ℕ → Parsed Hop) (event_of : List ℕ → Parsed Even
 
   module _ (accepts : List ℕ → Bool) where
     abbrev pub unless_refused : Grammar → Result Grammar GrammarFault
-    unless_refused grammar = unless (refusal accepts 1 (first_appearances expressions_in grammar.rules)) grammar
+    unless_refused grammar = unless (refusal accepts 1 (first_appearances patterns.expressions_in grammar.rules)) grammar
 
     -- the grammar whose expressions can be made, or why there is none
     abbrev pub grammar_made : GrammarKind → List ℕ → (room : ℕ) → Result Grammar GrammarFault

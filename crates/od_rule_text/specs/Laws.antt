@@ -6,74 +6,77 @@ use Rattle.od_pattern.specs.declared.grammar.GrammarKind.{GrammarKind}
 use Rattle.od_pattern.specs.declared.grammar.GrammarKind.TheVariants.{RuleFile as OfRules}
 use Rattle.od_pattern.specs.declared.grammar.Grammar.{Grammar}
 use Rattle.od_pattern.specs.declared.rule.Rule.{Rule}
-use Rattle.od_pattern.specs.declared.rule.Hop.{Hop}
-use Rattle.od_pattern.specs.declared.rule.EventRule.{EventRule}
 use Rattle.od_pattern.specs.declared.rule.Body.{Body}
 use Rattle.od_pattern.specs.declared.rule.Priority.{Priority}
 use Rattle.od_language.specs.Identifier.{is_identifier}
 use Rattle.od_rule_text.specs.declared.grammar_fault.GrammarFault.{GrammarFault}
 use Rattle.od_rule_text.specs.declared.grammar_fault.GrammarFault.TheVariants as fault
-use Rattle.od_rule_text.specs.declared.limits.TheConstants.{GRAMMAR_RULES, LAST_ROUND}
+use Rattle.od_rule_text.specs.declared.limits.TheConstants.{PATTERN_BYTES, LAST_ROUND}
 use Rattle.od_rule_text.specs.declared.rule_file.KeyText.{KeyText}
 use Rattle.od_rule_text.specs.declared.rule_file.RuleFile.{RuleFile}
 use Rattle.od_rule_text.specs.Texts.{is_among}
 use Rattle.od_rule_text.specs.RuleFiles.{rule_file_of}
 use Rattle.od_rule_text.specs.Expansion.{has_opening, expanded}
 use Rattle.od_rule_text.specs.Priorities.{priority_of, rule_priority}
-use Rattle.od_rule_text.specs.Items.{value_of, is_rule_name}
+use Rattle.od_rule_text.specs.Items.{RuleType, type_of, value_of, is_rule_name}
 use Rattle.od_rule_text.specs.Expressions.{expressions_of}
-use Rattle.od_rule_text.specs.Grammars.{Parsed, names_labels_of, grammar_read}
+use Rattle.od_rule_text.specs.Grammars.{Patterns, names_labels_of, body_of, grammar_read}
 
 -- a text in which no `${` stands is its own expansion, whatever the variables
 abbrev pub KeepsPlainTexts : Type 0
 KeepsPlainTexts = (vars : List KeyText) (text : List ℕ) → has_opening text ≡ false → expanded vars text ≡ Ok text
 
--- ## Grammars, for any reading of patterns
+-- ## Grammars, however patterns are read
 
--- how the texts of patterns are read, and which regular expressions a rule has
-pub record Patterns : Type 0 where
-  pub hop_of : List ℕ → Parsed Hop
-  pub event_of : List ℕ → Parsed EventRule
-  pub expressions_in : Body → List (List ℕ)
+-- a body is what a pattern says in a rule of a type, once its variables are replaced
+pub record IsBodyOf (patterns : Patterns) (vars : List KeyText) (written pattern : List ℕ) (body : Body) : Type 0 where
+  pub type : RuleType
+  pub text : List ℕ
+  pub typed : type_of written ≡ Some type
+  pub expands : expanded vars pattern ≡ Ok text
+  pub small : length text ≤ PATTERN_BYTES
+  pub reads : body_of patterns type text ≡ Ok body
 
-abbrev pub read_by : Patterns → GrammarKind → List ℕ → ℕ → Result Grammar GrammarFault
-read_by p kind text room = grammar_read p.hop_of p.event_of p.expressions_in kind text room
-
--- a rule has the name, the label and the priority that an item writes
-pub record IsRuleOf (item : List KeyText) (rule : Rule) : Type 0 where
+-- a rule is what an item says, where these are the variables
+pub record IsRuleOf (patterns : Patterns) (vars : List KeyText) (item : List KeyText) (rule : Rule) : Type 0 where
   pub name : value_of (codes "name") item ≡ Some rule.name
   pub label : value_of (codes "label") item ≡ Some rule.label
   pub priority : rule_priority (value_of (codes "priority") item) ≡ Some rule.priority
+  pub type : List ℕ
+  pub pattern : List ℕ
+  pub has_type : value_of (codes "type") item ≡ Some type
+  pub has_pattern : value_of (codes "pattern") item ≡ Some pattern
+  pub body : IsBodyOf patterns vars type pattern rule.body
 
--- a grammar that is read from a rule file has a rule for each item, in the order of the file
+-- a grammar of a rule file has a rule for each item, in the order of the file
 abbrev pub KeepsOrder : Type 0
-KeepsOrder = (p : Patterns) (text : List ℕ) (room : ℕ) (grammar : Grammar) →
-    read_by p OfRules text room ≡ Ok grammar →
-    (file : RuleFile) × (rule_file_of text ≡ Ok file) × AllZip IsRuleOf file.rules grammar.rules
+KeepsOrder = (patterns : Patterns) (text : List ℕ) (room : ℕ) (grammar : Grammar) →
+    grammar_read patterns OfRules text room ≡ Ok grammar →
+    (file : RuleFile) × (rule_file_of text ≡ Ok file) × AllZip (IsRuleOf patterns file.vars) file.rules grammar.rules
 
 -- a rule has another name than those before it
 abbrev pub HasNewName : List Rule → Rule → Type 0
 HasNewName before rule = is_among (map (λ r. r.name) before) rule.name ≡ false
 
 -- what every grammar has that a text is
-pub record IsOfText (expressions_in : Body → List (List ℕ)) (kind : GrammarKind) (text : List ℕ) (room : ℕ) (grammar : Grammar) : Type 0 where
+pub record IsOfText (patterns : Patterns) (kind : GrammarKind) (text : List ℕ) (room : ℕ) (grammar : Grammar) : Type 0 where
   pub same_kind : grammar.kind ≡ kind
   pub same_text : grammar.text ≡ text
   pub distinct : EachPoint HasNewName grammar.rules
   pub named : Each (λ r. is_rule_name r.name ≡ true) grammar.rules
   pub labelled : Each (λ r. is_identifier r.label ≡ true) grammar.rules
   pub known : Each (λ r. names_labels_of grammar.rules r ≡ true) grammar.rules
-  pub fits : length (expressions_of expressions_in grammar.rules) ≤ room
+  pub fits : length (expressions_of patterns.expressions_in grammar.rules) ≤ room
 
 -- the grammar of a text has its kind and its text; its rules have names that differ, labels, no unknown labels, and expressions for which there is room
 abbrev pub ReadsGrammars : Type 0
-ReadsGrammars = (p : Patterns) (kind : GrammarKind) (text : List ℕ) (room : ℕ) (grammar : Grammar) →
-    read_by p kind text room ≡ Ok grammar → IsOfText p.expressions_in kind text room grammar
+ReadsGrammars = (patterns : Patterns) (kind : GrammarKind) (text : List ℕ) (room : ℕ) (grammar : Grammar) →
+    grammar_read patterns kind text room ≡ Ok grammar → IsOfText patterns kind text room grammar
 
 -- where there is more room, the same grammar is read
 abbrev pub KeepsWithMoreRoom : Type 0
-KeepsWithMoreRoom = (p : Patterns) (kind : GrammarKind) (text : List ℕ) (room more : ℕ) (grammar : Grammar) →
-    room ≤ more → read_by p kind text room ≡ Ok grammar → read_by p kind text more ≡ Ok grammar
+KeepsWithMoreRoom = (patterns : Patterns) (kind : GrammarKind) (text : List ℕ) (room more : ℕ) (grammar : Grammar) →
+    room ≤ more → grammar_read patterns kind text room ≡ Ok grammar → grammar_read patterns kind text more ≡ Ok grammar
 
 -- whether a fault is one of a text: neither want of memory nor an expression that was refused
 abbrev pub IsTextFault : GrammarFault → Type 0
@@ -83,8 +86,8 @@ IsTextFault f = Unit {0}
 
 -- the first fault of a text is one of a text
 abbrev pub HasTextFaults : Type 0
-HasTextFaults = (p : Patterns) (kind : GrammarKind) (text : List ℕ) (room : ℕ) (f : GrammarFault) →
-    read_by p kind text room ≡ Err f → IsTextFault f
+HasTextFaults = (patterns : Patterns) (kind : GrammarKind) (text : List ℕ) (room : ℕ) (f : GrammarFault) →
+    grammar_read patterns kind text room ≡ Err f → IsTextFault f
 
 -- ## Priorities
 

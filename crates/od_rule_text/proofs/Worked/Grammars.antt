@@ -29,7 +29,7 @@ use Rattle.od_rule_text.specs.Expansion.{expanded}
 use Rattle.od_rule_text.specs.Priorities.{priority_of}
 use Rattle.od_rule_text.specs.Labels.{surface_labels, parts_labels}
 use Rattle.od_rule_text.specs.Expressions.{constraint_expressions, surface_expressions, path_expressions, body_expressions}
-use Rattle.od_rule_text.specs.Grammars.{grammar_read, grammar_made}
+use Rattle.od_rule_text.specs.Grammars.{Patterns, grammar_read, grammar_made}
 
 -- ## Small readings of patterns: words between single blanks, of which `@name` is a label and `/text` an expression
 
@@ -61,6 +61,9 @@ event_with (trigger ∷ arguments) = Ok (record { trigger = word trigger; argume
 abbrev event_of : List ℕ → Result EventRule (ℕ × PatternKind)
 event_of text = event_with (slice_split (λ b. b == 32) text)
 
+abbrev patterns : Patterns
+patterns = record { hop_of = hop_of; event_of = event_of; expressions_in = body_expressions }
+
 -- the fault of a text, where it has one
 abbrev fault_in : Result Grammar GrammarFault → Option GrammarFault
 fault_in (Ok grammar) = None
@@ -68,7 +71,7 @@ fault_in (Err fault) = Some fault
 
 -- with room for so many expressions, and a maker that refuses one
 fault_with : ℕ → List ℕ → List ℕ → Option GrammarFault
-fault_with room refused text = fault_in (grammar_made hop_of event_of body_expressions (λ x. not (bytes_eq x refused)) RuleFile text room)
+fault_with room refused text = fault_in (grammar_made patterns (λ x. not (bytes_eq x refused)) RuleFile text room)
 
 -- with room for all, and a maker that refuses none of the texts below
 fault_of : List ℕ → Option GrammarFault
@@ -198,7 +201,7 @@ argument_refused = refl
 -- ## Values
 
 -- two rules with a variable; the second has a priority
-file : grammar_read hop_of event_of body_expressions RuleFile
+file : grammar_read patterns RuleFile
     (codes "vars:\n v: y\nrules:\n" ++ item (codes "a") (codes "x${v}") ++ codes "- name: b\n  priority: 2-3\n  label: z\n  type: event\n  pattern: \"@z\"\n") 0
     ≡ Ok (record {
       kind = RuleFile;
@@ -210,7 +213,7 @@ unfolding computing
 file = refl
 
 -- a query is one rule
-query : grammar_read hop_of event_of body_expressions Query (codes "dogs bark") 0
+query : grammar_read patterns Query (codes "dogs bark") 0
     ≡ Ok (record {
       kind = Query;
       text = codes "dogs bark";
@@ -220,11 +223,11 @@ unfolding computing
 query = refl
 
 -- without variables
-variable_in_a_query : grammar_read hop_of event_of body_expressions Query (codes "${v}") 0 ≡ Err (UnknownVar 1)
+variable_in_a_query : grammar_read patterns Query (codes "${v}") 0 ≡ Err (UnknownVar 1)
 unfolding computing
 variable_in_a_query = refl
 
 -- its own label is that of a rule, another one is not
-label_in_a_query : grammar_read hop_of event_of body_expressions Query (codes "@x") 0 ≡ Err (UnknownLabel 1)
+label_in_a_query : grammar_read patterns Query (codes "@x") 0 ≡ Err (UnknownLabel 1)
 unfolding computing
 label_in_a_query = refl
