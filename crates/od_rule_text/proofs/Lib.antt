@@ -3,5 +3,6 @@ pub mod GrammarsRead
 pub mod Outcomes
 pub mod PlainTexts
 pub mod Priorities
+pub mod RuleFilesRead
 pub mod TextFaults
 pub mod Worked

@@ -1,6 +1,7 @@
 -- Laws of what rule files and grammars say.
-use Rattle.std.specs.Prelude.{◌≡◌, ◌≢◌, ◌↔◌, ℕ, ◌≤◌, ◌<◌, false, true, List, [], ◌∷◌, ◌++◌, length, map, None, Some, Result, Ok, Err, Bool, codes, decimal}
+use Rattle.std.specs.Prelude.{◌≡◌, ◌≢◌, ◌↔◌, ℕ, ◌≤◌, ◌<◌, false, true, List, [], ◌∷◌, ◌++◌, length, map, max, None, Some, Result, Ok, Err, Bool, codes, decimal}
 use Rattle.std.specs.List.{AllZip}
+use Rattle.std.specs.Str.Lines.{lines}
 use Rattle.od_text.specs.Lists.{Each, EachPoint}
 use Rattle.od_pattern.specs.declared.grammar.GrammarKind.{GrammarKind}
 use Rattle.od_pattern.specs.declared.grammar.GrammarKind.TheVariants.{RuleFile as OfRules}
@@ -14,8 +15,9 @@ use Rattle.od_rule_text.specs.declared.grammar_fault.GrammarFault.TheVariants as
 use Rattle.od_rule_text.specs.declared.limits.TheConstants.{PATTERN_BYTES, LAST_ROUND}
 use Rattle.od_rule_text.specs.declared.rule_file.KeyText.{KeyText}
 use Rattle.od_rule_text.specs.declared.rule_file.RuleFile.{RuleFile}
+use Rattle.od_rule_text.specs.declared.rule_file.YamlKind.{YamlKind}
 use Rattle.od_rule_text.specs.Texts.{is_among}
-use Rattle.od_rule_text.specs.RuleFiles.{rule_file_of}
+use Rattle.od_rule_text.specs.RuleFiles.{has_key, rule_file_of}
 use Rattle.od_rule_text.specs.Expansion.{has_opening, expanded}
 use Rattle.od_rule_text.specs.Priorities.{priority_of, rule_priority}
 use Rattle.od_rule_text.specs.Items.{RuleType, type_of, value_of, is_rule_name}
@@ -25,6 +27,32 @@ use Rattle.od_rule_text.specs.Grammars.{Patterns, names_labels_of, body_of, gram
 -- a text in which no `${` stands is its own expansion, whatever the variables
 abbrev pub KeepsPlainTexts : Type 0
 KeepsPlainTexts = (vars : List KeyText) (text : List ℕ) → has_opening text ≡ false → expanded vars text ≡ Ok text
+
+-- ## Rule files
+
+-- the keys of some entries are identifiers, each another one than those before it
+pub record HasKeys (entries : List KeyText) : Type 0 where
+  pub identifiers : Each (λ e. is_identifier e.key ≡ true) entries
+  pub distinct : EachPoint (λ before e. has_key e.key before ≡ false) entries
+
+-- an item has some entries, with keys
+pub record IsItem (entries : List KeyText) : Type 0 where
+  pub some : 0 < length entries
+  pub keys : HasKeys entries
+
+-- a rule file has variables with keys, and some items
+pub record IsRuleFile (file : RuleFile) : Type 0 where
+  pub vars : HasKeys file.vars
+  pub some : 0 < length file.rules
+  pub items : Each IsItem file.rules
+
+-- the rule file that a text is has keys that differ, and some items with some entries
+abbrev pub ReadsRuleFiles : Type 0
+ReadsRuleFiles = (text : List ℕ) (file : RuleFile) → rule_file_of text ≡ Ok file → IsRuleFile file
+
+-- the line of a first fault is one of the text, or 1
+abbrev pub TellsLines : Type 0
+TellsLines = (text : List ℕ) (line : ℕ) (kind : YamlKind) → rule_file_of text ≡ Err (line, kind) → (1 ≤ line) × (line ≤ max 1 (length (lines text)))
 
 -- ## Grammars, however patterns are read
 

@@ -1,7 +1,7 @@
 //! Laws of what rule files and grammars say, each the contract of a function that does nothing.
 //!
 //! The laws of grammars hold however the texts of patterns are read.
-ghost use Rattle.od_rule_text.specs.Laws.{HasTextFaults, KeepsOrder, KeepsPlainTexts, KeepsWithMoreRoom, ReadsGrammars, ReadsPriorities};
+ghost use Rattle.od_rule_text.specs.Laws.{HasTextFaults, KeepsOrder, KeepsPlainTexts, KeepsWithMoreRoom, ReadsGrammars, ReadsPriorities, ReadsRuleFiles, TellsLines};
 
 /// A text in which no `${` stands is its own expansion, whatever the variables.
 pub fn keeps_plain_texts()
@@ -32,4 +32,14 @@ pub fn has_text_faults()
 /// A text is a priority exactly where it is `n`, `n-m` or `n+`, in decimal digits, with 1 <= n <= m <= 100.
 pub fn reads_priorities()
     ensures { ReadsPriorities }
+{}
+
+/// A rule file has some items with some entries each; keys are identifiers, and differ in an item and among the variables.
+pub fn reads_rule_files()
+    ensures { ReadsRuleFiles }
+{}
+
+/// The line of a rule file's first fault is one of its lines, or 1.
+pub fn tells_lines()
+    ensures { TellsLines }
 {}
