@@ -1,11 +1,10 @@
 -- What the rules of a grammar have, by the tests that they passed.
-use Rattle.std.proofs.Common.{◌≡◌, ℕ, ◌+◌, ◌≤◌, List, [], ◌∷◌, ◌++◌, length, map, arith, Bool, true, false, refl, sym, ap, ◌∙◌, subst, Option, Some, None, Result, Ok, Err}
-use Rattle.std.specs.Prelude.{if◌then◌else◌, nat_lt, not, codes}
+use Rattle.std.proofs.Common.{◌≡◌, ℕ, ◌+◌, ◌≤◌, List, [], ◌∷◌, ◌++◌, length, map, arith, true, false, refl, sym, ap, ◌∙◌, subst, Option, Some, None, Result, Ok, Err}
+use Rattle.std.specs.Prelude.{nat_lt, not, codes}
 use Rattle.std.specs.List.{AllZip}
-use Rattle.std.specs.Option.{option_or}
 use Rattle.std.proofs.lemmas.Bool.{ltb-false, le-ltb}
 use Rattle.std.proofs.lemmas.List.{length-map, map-append}
-use Rattle.od_text.specs.Lists.{Each, points, points_after, EachPoint}
+use Rattle.od_text.specs.Lists.{Each, points_after}
 use Rattle.od_pattern.specs.declared.grammar.GrammarKind.{GrammarKind}
 use Rattle.od_pattern.specs.declared.grammar.GrammarKind.TheVariants.{RuleFile as OfRules, Query}
 use Rattle.od_pattern.specs.declared.grammar.Grammar.{Grammar}
@@ -13,8 +12,7 @@ use Rattle.od_pattern.specs.declared.rule.Rule.{Rule}
 use Rattle.od_pattern.specs.declared.rule.Body.{Body}
 use Rattle.od_pattern.specs.declared.rule.Priority.{Priority}
 use Rattle.od_language.specs.Identifier.{is_identifier}
-use Rattle.od_rule_text.specs.declared.grammar_fault.GrammarFault.{GrammarFault}
-use Rattle.od_rule_text.specs.declared.grammar_fault.GrammarLimit.TheVariants.{GrammarBytes, Rules, Vars, PatternBytes, Regexes}
+use Rattle.od_rule_text.specs.declared.grammar_fault.GrammarLimit.TheVariants.{GrammarBytes, Rules, Vars, PatternBytes}
 use Rattle.od_rule_text.specs.declared.limits.TheConstants.{PATTERN_BYTES}
 use Rattle.od_rule_text.specs.declared.rule_file.KeyText.{KeyText}
 use Rattle.od_rule_text.specs.declared.rule_file.RuleFile.{RuleFile}
@@ -23,9 +21,9 @@ use Rattle.od_rule_text.specs.Texts.{is_among}
 use Rattle.od_rule_text.specs.RuleFiles.{rule_file_of}
 use Rattle.od_rule_text.specs.Expansion.{Misfit, unknown, cycle, expanded}
 use Rattle.od_rule_text.specs.Priorities.{rule_priority}
-use Rattle.od_rule_text.specs.Items.{Fields, RuleType, type_of, fields_with, fields_of, value_of, has_rule_keys, is_rule_name}
-use Rattle.od_rule_text.specs.Expressions.{Appearance, first_appearances, expressions_of}
-use Rattle.od_rule_text.specs.Grammars.{Parsed, Patterns, limit_of, names_labels_of, label_fault, room_fault, whole_fault, with_body, body_of, with_text, with_priority, with_type, with_fields, rule_of, rules_of, file_rules, text_rules, query_entries, grammar_with, grammar_read}
+use Rattle.od_rule_text.specs.Items.{Fields, RuleType, type_of, fields_with, value_of, has_rule_keys, is_rule_name}
+use Rattle.od_rule_text.specs.Expressions.{Appearance, first_appearances}
+use Rattle.od_rule_text.specs.Grammars.{Parsed, Patterns, limit_of, names_labels_of, label_fault, room_fault, whole_fault, with_body, body_of, with_text, with_priority, with_type, with_fields, rule_of, rules_of, file_rules, text_rules, query_entries, grammar_read}
 use Rattle.od_rule_text.specs.Laws.{IsBodyOf, IsRuleOf, HasNewName, IsOfText}
 use Rattle.od_rule_text.proofs.Outcomes.{same_ok, not_false, behind_refusal, behind_test, within-ok, and_then-ok, one_more-ok, unless-ok, no_fault, no_fault_behind, neither_fault}
 

@@ -1,6 +1,6 @@
 -- What an answer says of the tests before it.
-use Rattle.std.proofs.Common.{◌≡◌, ℕ, ◌≤◌, List, ◌∷◌, length, Bool, true, false, refl, subst, Option, Some, None, Result, Ok, Err}
-use Rattle.std.specs.Prelude.{if◌then◌else◌, nat_lt, ◌&&◌, ◌||◌, not, IfErr, ⊤}
+use Rattle.std.proofs.Common.{◌≡◌, ◌≤◌, List, ◌∷◌, length, Bool, true, false, refl, subst, Option, Some, None, Result, Ok, Err}
+use Rattle.std.specs.Prelude.{if◌then◌else◌, nat_lt, ◌||◌, not, IfErr}
 use Rattle.std.specs.Option.{option_or}
 use Rattle.std.proofs.lemmas.Bool.{ltb-false}
 use Rattle.od_rule_text.specs.declared.grammar_fault.GrammarLimit.{GrammarLimit}

@@ -1,7 +1,6 @@
 -- Texts without occurrences are their own expansions.
-use Rattle.std.proofs.Common.{◌≡◌, ℕ, List, [], ◌∷◌, ◌++◌, drop, true, false, refl, ap, Option, Some, None, Result, Ok, Err}
-use Rattle.std.specs.Prelude.{if◌then◌else◌}
-use Rattle.od_rule_text.specs.Expansion.{Misfit, begins_with_opening, has_opening, name_before_brace, occurrence, pieces, piece_at, bytes_behind, in_front, joined, expanded}
+use Rattle.std.proofs.Common.{◌≡◌, ℕ, List, [], ◌∷◌, false, refl, ap, Option, Some, None, Result, Ok}
+use Rattle.od_rule_text.specs.Expansion.{Misfit, begins_with_opening, has_opening, occurrence, pieces, piece_at, bytes_behind, in_front, joined, expanded}
 use Rattle.od_rule_text.specs.Laws.{KeepsPlainTexts}
 use Rattle.od_rule_text.proofs.Outcomes.{neither}
 

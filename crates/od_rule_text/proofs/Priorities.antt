@@ -4,7 +4,7 @@ use Rattle.std.specs.Prelude.{◌==◌, ◌&&◌, if◌then◌else◌, nat_lt, n
 use Rattle.std.specs.List.{list_all, position_or_len, before_first, after_first}
 use Rattle.std.specs.Char.{is_ascii_digit}
 use Rattle.std.specs.Str.{all_ascii_digits}
-use Rattle.std.proofs.lemmas.Bool.{false≢true, ltb-true, ltb-false, leb-true, lt-ltb, le-ltb, le-leb, eqb-false, eqb-true, eq-eqb, ne_eqb}
+use Rattle.std.proofs.lemmas.Bool.{false≢true, ltb-true, ltb-false, leb-true, lt-ltb, le-ltb, le-leb, eqb-true, eq-eqb, ne_eqb}
 use Rattle.std.proofs.lemmas.List.{take-append-drop}
 use Rattle.std.proofs.lemmas.List.Sums.{passes_at_first}
 use Rattle.std.proofs.lemmas.List.Folds.{list_all-append}
@@ -193,11 +193,11 @@ at_plus : (text : List ℕ) (o : Option (List ℕ × List ℕ)) → split_once 4
 at_plus text None s p e =
     let o = only_in_some (round_of text) p e in
     let r = round_written text o.0 o.1 in
-    one_round o.0 r.1 r.2 r.0 o.2
+    one_round o.0 (r.1, r.2) r.0 o.2
 at_plus text (Some (before, [])) s p e =
     let a = always_from_some (round_of before) p e in
     let r = round_written before a.0 a.1 in
-    endless a.0 r.1 r.2 (cut_parts 43 text (before, []) s ∙ ap (λ front. front ++ 43 ∷ []) r.0) a.2
+    endless a.0 (r.1, r.2) (cut_parts 43 text (before, []) s ∙ ap (λ front. front ++ 43 ∷ []) r.0) a.2
 at_plus text (Some (before, c ∷ behind)) s p e = absurd (cc)
 
 at_dash : (text : List ℕ) (o : Option (List ℕ × List ℕ)) → split_once 45 text ≡ o → (p : Priority) → cut_at_dash text o ≡ Some p → IsWritten text p
@@ -206,7 +206,7 @@ at_dash text (Some q) s p e =
     let f = from_to_some (round_of q.0) (round_of q.1) p e in
     let from = round_written q.0 f.0 f.2 in
     let to = round_written q.1 f.1 f.3 in
-    range f.0 f.1 from.1 f.4 to.2 (cut_parts 45 text q s ∙ ap₂ (λ front behind. front ++ 45 ∷ behind) from.0 to.0) f.5
+    range f.0 f.1 (from.1, from.2) (to.1, to.2) f.4 (cut_parts 45 text q s ∙ ap₂ (λ front behind. front ++ 45 ∷ behind) from.0 to.0) f.5
 
 read : (text : List ℕ) (p : Priority) → priority_of text ≡ Some p → IsWritten text p
 unfolding priority_of
@@ -235,9 +235,9 @@ written_endless n some small =
     rw (uncut 45 (decimal n ++ 43 ∷ []) (plus_avoids n small), cut_at 43 (decimal n) [] (written_avoids 43 refl n small), written_round n some small) refl
 
 written : (text : List ℕ) (p : Priority) → IsWritten text p → priority_of text ≡ Some p
-written text p (one_round n some small is gives) = rw (is, gives) (written_one n some small)
-written text p (range n m some le small is gives) = rw (is, gives) (written_range n m some le small)
-written text p (endless n some small is gives) = rw (is, gives) (written_endless n some small)
+written text p (one_round n round is gives) = rw (is, gives) (written_one n round.0 round.1)
+written text p (range n m from to le is gives) = rw (is, gives) (written_range n m from.0 le to.1)
+written text p (endless n round is gives) = rw (is, gives) (written_endless n round.0 round.1)
 
 pub reads_priorities : ReadsPriorities
 reads_priorities text p = (read text p, written text p)

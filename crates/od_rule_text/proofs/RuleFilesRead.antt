@@ -1,10 +1,10 @@
 -- What a rule file has, by the tests that its statements passed, and where its first fault stands.
-use Rattle.std.proofs.Common.{◌≡◌, ℕ, zero, suc, ◌+◌, ◌<◌, ◌≤◌, List, [], ◌∷◌, ◌++◌, length, drop, arith, Bool, true, false, refl, sym, ap, ◌∙◌, subst, Option, Some, None, Result, Ok, Err}
+use Rattle.std.proofs.Common.{◌≡◌, ℕ, zero, suc, ◌+◌, ◌≤◌, List, [], ◌∷◌, ◌++◌, length, drop, arith, Bool, true, false, refl, subst, Option, Some, None, Result, Ok, Err}
 use Rattle.std.specs.Prelude.{if◌then◌else◌, ◌&&◌, max, unwrap_or}
 use Rattle.std.specs.Option.{is_some}
 use Rattle.std.specs.Str.Lines.{lines}
 use Rattle.od_text.specs.Cuts.{split_once}
-use Rattle.od_text.specs.Lists.{Each, EachPoint}
+use Rattle.od_text.specs.Lists.{Each}
 use Rattle.od_text.proofs.Lists.{Each-append, EachPoint-snoc}
 use Rattle.od_language.specs.Identifier.{is_identifier}
 use Rattle.od_rule_text.specs.declared.rule_file.KeyText.{KeyText}

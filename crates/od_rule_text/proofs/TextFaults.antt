@@ -1,10 +1,9 @@
 -- No test of a text answers want of memory, or an expression that was refused.
-use Rattle.std.proofs.Common.{◌≡◌, ℕ, ◌+◌, List, [], ◌∷◌, ◌++◌, length, Bool, true, false, Option, Some, None, Result, Ok, Err}
+use Rattle.std.proofs.Common.{ℕ, ◌+◌, List, [], ◌∷◌, ◌++◌, length, Bool, true, false, Option, Some, None, Result, Ok, Err}
 use Rattle.std.specs.Prelude.{if◌then◌else◌, nat_lt, not, IfErr}
 use Rattle.std.specs.Option.{option_or}
 use Rattle.od_pattern.specs.declared.grammar.GrammarKind.{GrammarKind}
 use Rattle.od_pattern.specs.declared.grammar.GrammarKind.TheVariants.{RuleFile as OfRules, Query}
-use Rattle.od_pattern.specs.declared.grammar.Grammar.{Grammar}
 use Rattle.od_pattern.specs.declared.rule.Rule.{Rule}
 use Rattle.od_pattern.specs.declared.rule.Body.{Body}
 use Rattle.od_pattern.specs.declared.rule.Priority.{Priority}
@@ -21,7 +20,7 @@ use Rattle.od_rule_text.specs.Expansion.{Misfit, unknown, cycle, expanded}
 use Rattle.od_rule_text.specs.Priorities.{rule_priority}
 use Rattle.od_rule_text.specs.Items.{Fields, RuleType, type_of, fields_of, has_rule_keys, is_rule_name}
 use Rattle.od_rule_text.specs.Expressions.{first_appearances}
-use Rattle.od_rule_text.specs.Grammars.{Parsed, Patterns, within, limit_of, names_labels_of, label_fault, room_fault, whole_fault, unless, with_body, body_of, with_text, with_priority, with_type, with_fields, rule_of, rules_of, file_rules, text_rules, query_entries, grammar_with, grammar_read}
+use Rattle.od_rule_text.specs.Grammars.{Parsed, Patterns, within, limit_of, names_labels_of, label_fault, whole_fault, unless, with_body, body_of, with_text, with_priority, with_type, with_fields, rule_of, rules_of, file_rules, text_rules, query_entries, grammar_read}
 use Rattle.od_rule_text.specs.Laws.{IsTextFault, HasTextFaults}
 use Rattle.od_rule_text.proofs.Outcomes.{if-errs, and_then-errs, one_more-errs, err-of}
 

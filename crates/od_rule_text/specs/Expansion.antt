@@ -19,7 +19,8 @@ closed_name name rest = if is_identifier name && begins_with 125 rest then Some 
 
 -- the longest name at the front of a text, where it is an identifier and `}` follows it
 abbrev pub name_before_brace : List ℕ → Option (List ℕ)
-name_before_brace text = closed_name (take_while in_identifier text) (drop (length (take_while in_identifier text)) text)
+name_before_brace text =
+    closed_name (take_while in_identifier text) (drop (length (take_while in_identifier text)) text)
 
 -- whether a text begins with `${`
 abbrev pub begins_with_opening : List ℕ → Bool
@@ -49,7 +50,8 @@ bytes_behind (Some name) = length name + 2
 abbrev pub pieces : (k : ℕ) → List ℕ → List Piece
 pieces k [] = []
 pieces (suc k) (c ∷ text) = pieces k text
-pieces zero (c ∷ text) = piece_at c (occurrence (c ∷ text)) ∷ pieces (bytes_behind (occurrence (c ∷ text))) text
+pieces zero (c ∷ text) =
+    piece_at c (occurrence (c ∷ text)) ∷ pieces (bytes_behind (occurrence (c ∷ text))) text
 
 -- ## Expansion
 
@@ -88,8 +90,10 @@ text_of expansion None = Err unknown
 text_of expansion (Some variable) = joined expansion (pieces 0 variable.value)
 
 -- The expansion of a variable within the expansions of others. If it is one of these, there is a cycle.
--- Else it is one of those that are left, of which there are d at most; where none is left, it is unknown.
-abbrev pub expansion : (d : ℕ) (left : List KeyText) (within : List (List ℕ)) → List ℕ → Result (List ℕ) Misfit
+-- Else it is one of those that are left, of which there are d at most;
+-- where none is left, it is unknown.
+abbrev pub expansion : (d : ℕ) (left : List KeyText) (within : List (List ℕ)) →
+    List ℕ → Result (List ℕ) Misfit
 expansion zero left within name = if is_among within name then Err (cycle name) else Err unknown
 expansion (suc d) left within name =
     if is_among within name then Err (cycle name) else

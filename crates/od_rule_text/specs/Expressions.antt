@@ -82,7 +82,8 @@ part_expressions part = path_expressions part.path ++ surface_expressions part.s
 -- of a rule, in the order of its text; of an event the trigger first, then the arguments
 abbrev pub body_expressions : Body → List (List ℕ)
 body_expressions (Basic hop) = surface_expressions hop.first ++ flat_map part_expressions hop.rest
-body_expressions (Event event) = surface_expressions event.trigger ++ flat_map (λ a. path_expressions a.path) event.arguments
+body_expressions (Event event) =
+    surface_expressions event.trigger ++ flat_map (λ a. path_expressions a.path) event.arguments
 
 -- ## Of several rules
 
@@ -99,7 +100,8 @@ appearances_in n expressions = map (λ x. record { rule = n; expression = x }) e
 abbrev pub first_of_each : (seen : List (List ℕ)) → List Appearance → List Appearance
 first_of_each seen [] = []
 first_of_each seen (a ∷ more) =
-    if is_among seen a.expression then first_of_each seen more else a ∷ first_of_each (seen ++ a.expression ∷ []) more
+    if is_among seen a.expression then first_of_each seen more else
+    a ∷ first_of_each (seen ++ a.expression ∷ []) more
 
 -- `expressions_in` gives the expressions of a rule's body in the order of its text
 module _ (expressions_in : Body → List (List ℕ)) where

@@ -1,4 +1,4 @@
--- What a grammar's text says, or its first fault, for any reading of patterns and any maker of regular expressions.
+-- What a grammar's text says, or its first fault, however patterns are read and expressions are made.
 use Rattle.std.specs.Prelude.{◌≡◌, ℕ, ◌+◌, not, Bool, List, [], ◌∷◌, ◌++◌, length, map, if◌then◌else◌, nat_lt, Option, None, Some, Result, Ok, Err, codes}
 use Rattle.std.specs.Option.{option_or}
 use Rattle.std.specs.List.{list_all}
@@ -29,6 +29,10 @@ use Rattle.od_rule_text.specs.Labels.{body_labels}
 use Rattle.od_rule_text.specs.Expressions.{Appearance, first_appearances}
 use Rattle.od_rule_text.specs.Texts.{is_among}
 
+-- a value, or the first fault
+abbrev pub Answer : Type 0 → Type 0
+Answer X = Result X GrammarFault
+
 -- what the text of a pattern says, or the place and kind of its first fault
 abbrev pub Parsed : Type 0 → Type 0
 Parsed X = Result X (ℕ × PatternKind)
@@ -54,7 +58,7 @@ abbrev pub passed : GrammarLimit → GrammarFault
 passed which = fault.Limit which (limit_of which)
 
 -- a list of which a limit speaks, where it is not passed
-abbrev pub within : {X Y : Type 0} → GrammarLimit → List X → Result Y GrammarFault → Result Y GrammarFault
+abbrev pub within : {X Y : Type 0} → GrammarLimit → List X → Answer Y → Answer Y
 within which xs answer = if nat_lt (limit_of which) (length xs) then Err (passed which) else answer
 
 -- ## The entries of a query
@@ -64,7 +68,9 @@ entry key value = record { key = key; value = value }
 
 -- a query is one rule, of which only the pattern is written
 abbrev pub query_entries : List ℕ → List KeyText
-query_entries text = entry (codes "name") (codes "query") ∷ entry (codes "label") (codes "Query") ∷ entry (codes "type") (codes "basic") ∷ entry (codes "pattern") text ∷ []
+query_entries text =
+    entry (codes "name") (codes "query") ∷ entry (codes "label") (codes "Query")
+    ∷ entry (codes "type") (codes "basic") ∷ entry (codes "pattern") text ∷ []
 
 -- ## The labels of all rules
 
@@ -75,21 +81,22 @@ names_labels_of rules rule = list_all (is_among (map (λ r. r.label) rules)) (bo
 -- that a rule names another label; the first of the rules that are left has the number n
 abbrev pub label_fault : List Rule → (n : ℕ) → List Rule → Option GrammarFault
 label_fault rules n [] = None
-label_fault rules n (rule ∷ more) = if names_labels_of rules rule then label_fault rules (n + 1) more else Some (fault.UnknownLabel n)
+label_fault rules n (rule ∷ more) =
+    if names_labels_of rules rule then label_fault rules (n + 1) more else Some (fault.UnknownLabel n)
 
 -- ## Answers
 
-abbrev pub one_more : {X : Type 0} → X → Result (List X) GrammarFault → Result (List X) GrammarFault
+abbrev pub one_more : {X : Type 0} → X → Answer (List X) → Answer (List X)
 one_more x (Ok xs) = Ok (x ∷ xs)
 one_more x (Err f) = Err f
 
 -- what follows an answer, unless that is a fault
-abbrev pub and_then : {X Y : Type 0} → Result X GrammarFault → (X → Result Y GrammarFault) → Result Y GrammarFault
+abbrev pub and_then : {X Y : Type 0} → Answer X → (X → Answer Y) → Answer Y
 and_then (Ok x) more = more x
 and_then (Err f) more = Err f
 
 -- an answer, unless there is a fault
-abbrev pub unless : {X : Type 0} → Option GrammarFault → X → Result X GrammarFault
+abbrev pub unless : {X : Type 0} → Option GrammarFault → X → Answer X
 unless None x = Ok x
 unless (Some f) x = Err f
 
@@ -100,16 +107,18 @@ read_as body (Ok x) = Ok (body x)
 read_as body (Err f) = Err f
 
 -- a rule with this body, or the first fault of its pattern
-abbrev pub with_body : (n : ℕ) → Fields → Priority → Parsed Body → Result Rule GrammarFault
+abbrev pub with_body : (n : ℕ) → Fields → Priority → Parsed Body → Answer Rule
 with_body n f priority (Err p) = Err (fault.Pattern n p.0 p.1)
-with_body n f priority (Ok body) = Ok (record { name = f.name; label = f.label; priority = priority; body = body })
+with_body n f priority (Ok body) =
+    Ok (record { name = f.name; label = f.label; priority = priority; body = body })
 
 -- ## Refused expressions
 
 -- that an expression is not accepted; the first of those that are left has the number n
 abbrev pub refusal : (accepts : List ℕ → Bool) (n : ℕ) → List Appearance → Option GrammarFault
 refusal accepts n [] = None
-refusal accepts n (a ∷ more) = if accepts a.expression then refusal accepts (n + 1) more else Some (fault.RegexRefused a.rule n)
+refusal accepts n (a ∷ more) =
+    if accepts a.expression then refusal accepts (n + 1) more else Some (fault.RegexRefused a.rule n)
 
 -- ## From a text to its grammar
 module _ (patterns : Patterns) where
@@ -120,21 +129,22 @@ module _ (patterns : Patterns) where
   body_of basic text = read_as Basic (patterns.hop_of text)
   body_of event text = read_as Event (patterns.event_of text)
 
-  abbrev pub with_text : (n : ℕ) → Fields → RuleType → Priority → Result (List ℕ) Misfit → Result Rule GrammarFault
+  abbrev pub with_text : (n : ℕ) → Fields → RuleType → Priority → Result (List ℕ) Misfit → Answer Rule
   with_text n f type priority (Err unknown) = Err (fault.UnknownVar n)
   with_text n f type priority (Err (cycle name)) = Err (fault.VarCycle name)
-  with_text n f type priority (Ok text) = within PatternBytes text (with_body n f priority (body_of type text))
+  with_text n f type priority (Ok text) =
+      within PatternBytes text (with_body n f priority (body_of type text))
 
-  abbrev pub with_priority : List KeyText → (n : ℕ) → Fields → RuleType → Option Priority → Result Rule GrammarFault
+  abbrev pub with_priority : List KeyText → (n : ℕ) → Fields → RuleType → Option Priority → Answer Rule
   with_priority vars n f type None = Err (fault.BadPriority n)
   with_priority vars n f type (Some priority) = with_text n f type priority (expanded vars f.pattern)
 
-  abbrev pub with_type : List KeyText → (n : ℕ) → Fields → Option RuleType → Result Rule GrammarFault
+  abbrev pub with_type : List KeyText → (n : ℕ) → Fields → Option RuleType → Answer Rule
   with_type vars n f None = Err (fault.BadType n)
   with_type vars n f (Some type) = with_priority vars n f type (rule_priority f.priority)
 
   -- `names` are those of the earlier rules
-  abbrev pub with_fields : List KeyText → (n : ℕ) (names : List (List ℕ)) → Option Fields → Result Rule GrammarFault
+  abbrev pub with_fields : List KeyText → (n : ℕ) (names : List (List ℕ)) → Option Fields → Answer Rule
   with_fields vars n names None = Err (fault.MissingKey n)
   with_fields vars n names (Some f) =
       if not (is_rule_name f.name) then Err (fault.BadName n) else
@@ -143,24 +153,28 @@ module _ (patterns : Patterns) where
       with_type vars n f (type_of f.type)
 
   -- the rule of an item, or its first fault
-  abbrev pub rule_of : List KeyText → (n : ℕ) (names : List (List ℕ)) → List KeyText → Result Rule GrammarFault
-  rule_of vars n names item = if has_rule_keys item then with_fields vars n names (fields_of item) else Err (fault.UnknownKey n)
+  abbrev pub rule_of : List KeyText → (n : ℕ) (names : List (List ℕ)) → List KeyText → Answer Rule
+  rule_of vars n names item =
+      if has_rule_keys item then with_fields vars n names (fields_of item) else Err (fault.UnknownKey n)
 
   -- ## All rules
 
   -- one after another; the first of the items that are left has the number n
-  abbrev pub rules_of : List KeyText → (n : ℕ) (names : List (List ℕ)) → List (List KeyText) → Result (List Rule) GrammarFault
+  abbrev pub rules_of : List KeyText → (n : ℕ) (names : List (List ℕ)) →
+      List (List KeyText) → Answer (List Rule)
   rules_of vars n names [] = Ok []
   rules_of vars n names (item ∷ items) =
-      and_then (rule_of vars n names item) (λ rule. one_more rule (rules_of vars (n + 1) (names ++ rule.name ∷ []) items))
+      and_then (rule_of vars n names item)
+      (λ rule. one_more rule (rules_of vars (n + 1) (names ++ rule.name ∷ []) items))
 
   -- of a rule file
-  abbrev pub file_rules : Result RuleFile (ℕ × YamlKind) → Result (List Rule) GrammarFault
+  abbrev pub file_rules : Result RuleFile (ℕ × YamlKind) → Answer (List Rule)
   file_rules (Err f) = Err (fault.Yaml f.0 f.1)
-  file_rules (Ok file) = within Rules file.rules (within Vars file.vars (rules_of file.vars 1 [] file.rules))
+  file_rules (Ok file) =
+      within Rules file.rules (within Vars file.vars (rules_of file.vars 1 [] file.rules))
 
   -- of a text; a query has no variables
-  abbrev pub text_rules : GrammarKind → List ℕ → Result (List Rule) GrammarFault
+  abbrev pub text_rules : GrammarKind → List ℕ → Answer (List Rule)
   text_rules OfRules text = file_rules (rule_file_of text)
   text_rules Query text = rules_of [] 1 [] (query_entries text ∷ [])
 
@@ -168,27 +182,33 @@ module _ (patterns : Patterns) where
 
   -- that the different expressions of rules are more than there is room for
   abbrev pub room_fault : (room : ℕ) → List Rule → Option GrammarFault
-  room_fault room rules = if nat_lt room (length (first_appearances patterns.expressions_in rules)) then Some (passed Regexes) else None
+  room_fault room rules =
+      if nat_lt room (length (first_appearances patterns.expressions_in rules))
+      then Some (passed Regexes)
+      else None
 
   -- unknown labels of all rules, then more expressions than there is room for
   abbrev pub whole_fault : (room : ℕ) → List Rule → Option GrammarFault
   whole_fault room rules = option_or (label_fault rules 1 rules) (room_fault room rules)
 
-  abbrev pub grammar_with : GrammarKind → List ℕ → (room : ℕ) → List Rule → Result Grammar GrammarFault
-  grammar_with kind text room rules = unless (whole_fault room rules) (record { kind = kind; text = text; rules = rules })
+  abbrev pub grammar_with : GrammarKind → List ℕ → (room : ℕ) → List Rule → Answer Grammar
+  grammar_with kind text room rules =
+      unless (whole_fault room rules) (record { kind = kind; text = text; rules = rules })
 
-  -- the grammar that a text is, where there is room for so many different expressions, or its first fault
-  unfoldable pub grammar_read : GrammarKind → List ℕ → (room : ℕ) → Result Grammar GrammarFault
-  grammar_read kind text room = within GrammarBytes text (and_then (text_rules kind text) (grammar_with kind text room))
+  -- the grammar that a text is, with room for so many different expressions, or its first fault
+  unfoldable pub grammar_read : GrammarKind → List ℕ → (room : ℕ) → Answer Grammar
+  grammar_read kind text room =
+      within GrammarBytes text (and_then (text_rules kind text) (grammar_with kind text room))
 
   -- ## With a maker, which accepts some expressions
 
   module _ (accepts : List ℕ → Bool) where
-    abbrev pub unless_refused : Grammar → Result Grammar GrammarFault
-    unless_refused grammar = unless (refusal accepts 1 (first_appearances patterns.expressions_in grammar.rules)) grammar
+    abbrev pub unless_refused : Grammar → Answer Grammar
+    unless_refused grammar =
+        unless (refusal accepts 1 (first_appearances patterns.expressions_in grammar.rules)) grammar
 
     -- the grammar whose expressions can be made, or why there is none
-    abbrev pub grammar_made : GrammarKind → List ℕ → (room : ℕ) → Result Grammar GrammarFault
+    abbrev pub grammar_made : GrammarKind → List ℕ → (room : ℕ) → Answer Grammar
     grammar_made kind text room = and_then (grammar_read kind text room) unless_refused
 
     -- what a reader may answer in place of a grammar: why there is none, or that memory was refused

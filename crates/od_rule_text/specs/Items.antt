@@ -48,8 +48,9 @@ fields_with name label type priority pattern = None
 
 abbrev pub fields_of : List KeyText → Option Fields
 fields_of entries =
-    fields_with (value_of (codes "name") entries) (value_of (codes "label") entries) (value_of (codes "type") entries)
-    (value_of (codes "priority") entries) (value_of (codes "pattern") entries)
+    fields_with (value_of (codes "name") entries) (value_of (codes "label") entries)
+    (value_of (codes "type") entries) (value_of (codes "priority") entries)
+    (value_of (codes "pattern") entries)
 
 -- the name of a rule has 1 to 64 bytes
 abbrev pub is_rule_name : List ℕ → Bool

@@ -1,5 +1,5 @@
 -- The labels that a rule names, in the order of its text: those behind `@`, and those of arguments.
-use Rattle.std.specs.Prelude.{ℕ, List, [], ◌∷◌, ◌++◌, Option, None, Some}
+use Rattle.std.specs.Prelude.{ℕ, List, [], ◌∷◌, ◌++◌}
 use Rattle.std.specs.List.{flat_map}
 use Rattle.std.specs.Option.{option_to_list}
 use Rattle.od_pattern.specs.declared.pattern.Surface.{Surface, Row_of-Surface, end_of-Surface, more_of-Surface}
@@ -27,5 +27,7 @@ unfoldable mutual
 
 -- the labels of a rule; its paths name none
 abbrev pub body_labels : Body → List (List ℕ)
-body_labels (Basic hop) = surface_labels hop.first ++ flat_map (λ part. surface_labels part.surface) hop.rest
-body_labels (Event event) = surface_labels event.trigger ++ flat_map (λ a. option_to_list a.label) event.arguments
+body_labels (Basic hop) =
+    surface_labels hop.first ++ flat_map (λ part. surface_labels part.surface) hop.rest
+body_labels (Event event) =
+    surface_labels event.trigger ++ flat_map (λ a. option_to_list a.label) event.arguments

@@ -1,5 +1,5 @@
 -- Laws of what rule files and grammars say.
-use Rattle.std.specs.Prelude.{◌≡◌, ◌≢◌, ◌↔◌, ℕ, ◌≤◌, ◌<◌, false, true, List, [], ◌∷◌, ◌++◌, length, map, max, None, Some, Result, Ok, Err, Bool, codes, decimal}
+use Rattle.std.specs.Prelude.{◌≡◌, ◌↔◌, ℕ, ◌≤◌, ◌<◌, false, true, List, [], ◌∷◌, ◌++◌, length, map, max, None, Some, Ok, Err, codes, decimal}
 use Rattle.std.specs.List.{AllZip}
 use Rattle.std.specs.Str.Lines.{lines}
 use Rattle.od_text.specs.Lists.{Each, EachPoint}
@@ -26,7 +26,8 @@ use Rattle.od_rule_text.specs.Grammars.{Patterns, names_labels_of, body_of, gram
 
 -- a text in which no `${` stands is its own expansion, whatever the variables
 abbrev pub KeepsPlainTexts : Type 0
-KeepsPlainTexts = (vars : List KeyText) (text : List ℕ) → has_opening text ≡ false → expanded vars text ≡ Ok text
+KeepsPlainTexts =
+    (vars : List KeyText) (text : List ℕ) → has_opening text ≡ false → expanded vars text ≡ Ok text
 
 -- ## Rule files
 
@@ -52,12 +53,15 @@ ReadsRuleFiles = (text : List ℕ) (file : RuleFile) → rule_file_of text ≡ O
 
 -- the line of a first fault is one of the text, or 1
 abbrev pub TellsLines : Type 0
-TellsLines = (text : List ℕ) (line : ℕ) (kind : YamlKind) → rule_file_of text ≡ Err (line, kind) → (1 ≤ line) × (line ≤ max 1 (length (lines text)))
+TellsLines =
+    (text : List ℕ) (line : ℕ) (kind : YamlKind) → rule_file_of text ≡ Err (line, kind) →
+    (1 ≤ line) × (line ≤ max 1 (length (lines text)))
 
 -- ## Grammars, however patterns are read
 
 -- a body is what a pattern says in a rule of a type, once its variables are replaced
-pub record IsBodyOf (patterns : Patterns) (vars : List KeyText) (written pattern : List ℕ) (body : Body) : Type 0 where
+pub record IsBodyOf (patterns : Patterns) (vars : List KeyText) (written pattern : List ℕ)
+    (body : Body) : Type 0 where
   pub type : RuleType
   pub text : List ℕ
   pub typed : type_of written ≡ Some type
@@ -66,7 +70,7 @@ pub record IsBodyOf (patterns : Patterns) (vars : List KeyText) (written pattern
   pub reads : body_of patterns type text ≡ Ok body
 
 -- a rule is what an item says, where these are the variables
-pub record IsRuleOf (patterns : Patterns) (vars : List KeyText) (item : List KeyText) (rule : Rule) : Type 0 where
+pub record IsRuleOf (patterns : Patterns) (vars item : List KeyText) (rule : Rule) : Type 0 where
   pub name : value_of (codes "name") item ≡ Some rule.name
   pub label : value_of (codes "label") item ≡ Some rule.label
   pub priority : rule_priority (value_of (codes "priority") item) ≡ Some rule.priority
@@ -78,16 +82,19 @@ pub record IsRuleOf (patterns : Patterns) (vars : List KeyText) (item : List Key
 
 -- a grammar of a rule file has a rule for each item, in the order of the file
 abbrev pub KeepsOrder : Type 0
-KeepsOrder = (patterns : Patterns) (text : List ℕ) (room : ℕ) (grammar : Grammar) →
+KeepsOrder =
+    (patterns : Patterns) (text : List ℕ) (room : ℕ) (grammar : Grammar) →
     grammar_read patterns OfRules text room ≡ Ok grammar →
-    (file : RuleFile) × (rule_file_of text ≡ Ok file) × AllZip (IsRuleOf patterns file.vars) file.rules grammar.rules
+    (file : RuleFile) × (rule_file_of text ≡ Ok file) ×
+    AllZip (IsRuleOf patterns file.vars) file.rules grammar.rules
 
 -- a rule has another name than those before it
 abbrev pub HasNewName : List Rule → Rule → Type 0
 HasNewName before rule = is_among (map (λ r. r.name) before) rule.name ≡ false
 
 -- what every grammar has that a text is
-pub record IsOfText (patterns : Patterns) (kind : GrammarKind) (text : List ℕ) (room : ℕ) (grammar : Grammar) : Type 0 where
+pub record IsOfText (patterns : Patterns) (kind : GrammarKind) (text : List ℕ)
+    (room : ℕ) (grammar : Grammar) : Type 0 where
   pub same_kind : grammar.kind ≡ kind
   pub same_text : grammar.text ≡ text
   pub distinct : EachPoint HasNewName grammar.rules
@@ -96,15 +103,18 @@ pub record IsOfText (patterns : Patterns) (kind : GrammarKind) (text : List ℕ)
   pub known : Each (λ r. names_labels_of grammar.rules r ≡ true) grammar.rules
   pub fits : length (expressions_of patterns.expressions_in grammar.rules) ≤ room
 
--- the grammar of a text has its kind and its text; its rules have names that differ, labels, no unknown labels, and expressions for which there is room
+-- the grammar that is read from a text is one of that text
 abbrev pub ReadsGrammars : Type 0
-ReadsGrammars = (patterns : Patterns) (kind : GrammarKind) (text : List ℕ) (room : ℕ) (grammar : Grammar) →
+ReadsGrammars =
+    (patterns : Patterns) (kind : GrammarKind) (text : List ℕ) (room : ℕ) (grammar : Grammar) →
     grammar_read patterns kind text room ≡ Ok grammar → IsOfText patterns kind text room grammar
 
 -- where there is more room, the same grammar is read
 abbrev pub KeepsWithMoreRoom : Type 0
-KeepsWithMoreRoom = (patterns : Patterns) (kind : GrammarKind) (text : List ℕ) (room more : ℕ) (grammar : Grammar) →
-    room ≤ more → grammar_read patterns kind text room ≡ Ok grammar → grammar_read patterns kind text more ≡ Ok grammar
+KeepsWithMoreRoom =
+    (patterns : Patterns) (kind : GrammarKind) (text : List ℕ) (room more : ℕ) (grammar : Grammar) →
+    room ≤ more → grammar_read patterns kind text room ≡ Ok grammar →
+    grammar_read patterns kind text more ≡ Ok grammar
 
 -- whether a fault is one of a text: neither want of memory nor an expression that was refused
 abbrev pub IsTextFault : GrammarFault → Type 0
@@ -114,16 +124,24 @@ IsTextFault f = Unit {0}
 
 -- the first fault of a text is one of a text
 abbrev pub HasTextFaults : Type 0
-HasTextFaults = (patterns : Patterns) (kind : GrammarKind) (text : List ℕ) (room : ℕ) (f : GrammarFault) →
+HasTextFaults =
+    (patterns : Patterns) (kind : GrammarKind) (text : List ℕ) (room : ℕ) (f : GrammarFault) →
     grammar_read patterns kind text room ≡ Err f → IsTextFault f
 
 -- ## Priorities
 
+-- a round that a priority may name
+abbrev pub IsRound : ℕ → Type 0
+IsRound n = (1 ≤ n) × (n ≤ LAST_ROUND)
+
 -- what may be written for a priority
 pub data IsWritten (text : List ℕ) (p : Priority) : Type 0 where
-  one_round : (n : ℕ) → 1 ≤ n → n ≤ LAST_ROUND → text ≡ decimal n → p ≡ record { first = n; last = Some n } → IsWritten text p
-  range : (n m : ℕ) → 1 ≤ n → n ≤ m → m ≤ LAST_ROUND → text ≡ decimal n ++ 45 ∷ decimal m → p ≡ record { first = n; last = Some m } → IsWritten text p
-  endless : (n : ℕ) → 1 ≤ n → n ≤ LAST_ROUND → text ≡ decimal n ++ 43 ∷ [] → p ≡ record { first = n; last = None } → IsWritten text p
+  one_round : (n : ℕ) → IsRound n → text ≡ decimal n →
+      p ≡ record { first = n; last = Some n } → IsWritten text p
+  range : (n m : ℕ) → IsRound n → IsRound m → n ≤ m → text ≡ decimal n ++ 45 ∷ decimal m →
+      p ≡ record { first = n; last = Some m } → IsWritten text p
+  endless : (n : ℕ) → IsRound n → text ≡ decimal n ++ 43 ∷ [] →
+      p ≡ record { first = n; last = None } → IsWritten text p
 
 -- a text is a priority exactly where it is written for it
 abbrev pub ReadsPriorities : Type 0

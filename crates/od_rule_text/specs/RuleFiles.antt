@@ -37,7 +37,16 @@ pub record Outline : Type 0 where
 
 -- before the first statement
 abbrev pub nothing_said : Outline
-nothing_said = record { section = None; has_vars = false; rules_line = None; vars_column = None; items_column = None; vars = []; complete = []; item = [] }
+nothing_said = record {
+  section = None;
+  has_vars = false;
+  rules_line = None;
+  vars_column = None;
+  items_column = None;
+  vars = [];
+  complete = [];
+  item = [];
+}
 
 -- complete items and the last one, where there is one
 abbrev pub with_last_item : List (List KeyText) → List KeyText → List (List KeyText)
@@ -66,7 +75,8 @@ may_stand None o column = false
 may_stand (Some in_vars) o column = fits o.vars_column column
 may_stand (Some in_rules) o column = fits_item o.items_column column
 
--- whether an item must begin at this column: it is that of the items, or it is above 0 and the first item is awaited
+-- whether an item must begin at this column:
+-- it is that of the items, or it is above 0 and the first item is awaited
 abbrev pub wants_item : Option Section → Option ℕ → ℕ → Bool
 wants_item None items_column column = false
 wants_item (Some in_vars) items_column column = false
@@ -80,13 +90,18 @@ heading column text =
     if column == 0 && bytes_eq text (codes "rules:") then Some in_rules else
     None
 
+-- whether a statement begins with `- `, or is a heading
+abbrev pub begins_item_or_section : Statement → Bool
+begins_item_or_section s = is_item s.text || is_some (heading s.column s.text)
+
 -- why a statement may not stand where it stands
 abbrev pub misplaced : Outline → Statement → Option YamlKind
 misplaced o s =
     if begins_with 9 s.text then Some Tab else
     if not (s.column == 0 || may_stand o.section o s.column) then Some Indent else
-    if wants_item o.section o.items_column s.column && not (is_item s.text || is_some (heading s.column s.text)) then Some Item else
-    None
+    if wants_item o.section o.items_column s.column && not (begins_item_or_section s)
+    then Some Item
+    else None
 
 -- ## Entries
 
@@ -99,7 +114,8 @@ pub data Role : Type 0 where
 -- what an entry is that stands at this column of a section; none where no entry may begin there
 abbrev pub role_of : Option Section → Option ℕ → ℕ → List ℕ → Option Role
 role_of None items_column column text = None
-role_of (Some in_vars) items_column column text = if column == 0 || is_item text then None else Some variable
+role_of (Some in_vars) items_column column text =
+    if column == 0 || is_item text then None else Some variable
 role_of (Some in_rules) items_column column text =
     if is_item text then (if fits items_column column then Some first_key else None) else
     if column == 0 then None else
@@ -118,26 +134,32 @@ has_key key entries = list_any (λ e. bytes_eq e.key key) entries
 -- one entry more
 abbrev pub with_entry : Outline → Role → ℕ → KeyText → Outline
 with_entry o variable column e = record o { vars_column = Some column; vars = o.vars ++ e ∷ [] }
-with_entry o first_key column e = record o { items_column = Some column; complete = items_of o; item = e ∷ [] }
+with_entry o first_key column e =
+    record o { items_column = Some column; complete = items_of o; item = e ∷ [] }
 with_entry o further_key column e = record o { item = o.item ++ e ∷ [] }
 
 -- ## One statement
 
 -- at the heading of a section, which must be new
 abbrev pub enter : Outline → ℕ → Section → Result Outline YamlKind
-enter o line in_vars = if o.has_vars then Err SameKey else Ok (record o { section = Some in_vars; has_vars = true })
-enter o line in_rules = if is_some o.rules_line then Err SameKey else Ok (record o { section = Some in_rules; rules_line = Some line })
+enter o line in_vars =
+    if o.has_vars then Err SameKey else Ok (record o { section = Some in_vars; has_vars = true })
+enter o line in_rules =
+    if is_some o.rules_line then Err SameKey else
+    Ok (record o { section = Some in_rules; rules_line = Some line })
 
 -- with a new key and its scalar
 abbrev pub take_scalar : Outline → Role → ℕ → List ℕ → Option (List ℕ) → Result Outline YamlKind
 take_scalar o role column key None = Err BadScalar
-take_scalar o role column key (Some text) = Ok (with_entry o role column (record { key = key; value = text }))
+take_scalar o role column key (Some text) =
+    Ok (with_entry o role column (record { key = key; value = text }))
 
 -- with an entry, to which these lines belong
 abbrev pub take_entry : Outline → Role → ℕ → List (List ℕ) → Option Entry → Result Outline YamlKind
 take_entry o role column below None = Err BadKey
 take_entry o role column below (Some e) =
-    if has_key e.key (siblings o role) then Err SameKey else take_scalar o role column e.key (scalar e.rest below)
+    if has_key e.key (siblings o role) then Err SameKey else
+    take_scalar o role column e.key (scalar e.rest below)
 
 abbrev pub take_role : Outline → Statement → Option Role → Result Outline YamlKind
 take_role o s None = Err BadKey
@@ -157,22 +179,26 @@ take_statement o s = take_unless o s (misplaced o s)
 
 -- ## The file
 
+-- a rule file, or the line and the kind of its first fault
+abbrev pub Reading : Type 0
+Reading = Result RuleFile (ℕ × YamlKind)
+
 -- at the end there must be an item
-abbrev pub file_of : Outline → List (List KeyText) → Result RuleFile (ℕ × YamlKind)
+abbrev pub file_of : Outline → List (List KeyText) → Reading
 file_of o [] = Err (unwrap_or o.rules_line 1, NoRules)
 file_of o (item ∷ items) = Ok (record { vars = o.vars; rules = item ∷ items })
 
-abbrev pub goes_on : ℕ → (Outline → Result RuleFile (ℕ × YamlKind)) → Result Outline YamlKind → Result RuleFile (ℕ × YamlKind)
+abbrev pub goes_on : ℕ → (Outline → Reading) → Result Outline YamlKind → Reading
 goes_on line more (Ok o) = more o
 goes_on line more (Err kind) = Err (line, kind)
 
 -- statement by statement
-abbrev pub file_after : Outline → List Statement → Result RuleFile (ℕ × YamlKind)
+abbrev pub file_after : Outline → List Statement → Reading
 file_after o [] = file_of o (items_of o)
 file_after o (s ∷ more) = goes_on s.line (λ next. file_after next more) (take_statement o s)
 
 -- the rule file that a text is, or its first fault with its line
-unfoldable pub rule_file_of : List ℕ → Result RuleFile (ℕ × YamlKind)
+unfoldable pub rule_file_of : List ℕ → Reading
 rule_file_of text = file_after nothing_said (statements 1 0 (lines text))
 
 -- what a reader may answer in place of a rule file: the first fault, or that memory was refused

@@ -30,7 +30,8 @@ begins_with_mark (c ∷ text) = (c == 45 || c == 63) && begins_with 32 text
 -- whether a text without outer blanks may be a plain scalar
 abbrev pub is_plain : List ℕ → Bool
 is_plain [] = false
-is_plain (c ∷ text) = not (is_indicator c) && not (begins_with_mark (c ∷ text)) && not (has_colon_space (c ∷ text))
+is_plain (c ∷ text) =
+    not (is_indicator c) && not (begins_with_mark (c ∷ text)) && not (has_colon_space (c ∷ text))
 
 abbrev pub plain_text : List ℕ → Option (List ℕ)
 plain_text text = if is_plain text then Some text else None
@@ -53,10 +54,11 @@ escaped c =
 abbrev pub may_follow_quote : List ℕ → Bool
 may_follow_quote rest = is_nothing_or_comment (past_blanks rest)
 
--- the text up to the closing quote; `behind` says whether the character before was a backslash that escapes
+-- the text up to the closing quote; `behind` says whether a backslash stands before, which escapes
 abbrev pub quoted : (behind : Bool) → List ℕ → Option (List ℕ)
 quoted behind [] = None
-quoted true (c ∷ text) = option_and_then (λ b. option_map (λ more. b ∷ more) (quoted false text)) (escaped c)
+quoted true (c ∷ text) =
+    option_and_then (λ b. option_map (λ more. b ∷ more) (quoted false text)) (escaped c)
 quoted false (c ∷ text) =
     if c == 34 then (if may_follow_quote text then Some [] else None) else
     if c == 92 then quoted true text else
@@ -71,17 +73,21 @@ is_literal rest = bytes_eq rest (codes "|") || bytes_eq rest (codes "|-")
 -- the indentation of the first line that is not blank, and 0 where there is none
 abbrev pub first_indentation : List (List ℕ) → ℕ
 first_indentation [] = 0
-first_indentation (line ∷ lines) = if is_blank_line line then first_indentation lines else indentation line
+first_indentation (line ∷ lines) =
+    if is_blank_line line then first_indentation lines else indentation line
 
 -- a blank line, or one that is indented at least so far
 abbrev pub is_literal_line : ℕ → List ℕ → Bool
 is_literal_line n line = is_blank_line line || nat_le n (indentation line)
 
 -- The lines of a literal, of the lines below its key, which stands at this column:
--- those that are blank or indented as far as the first that is not blank, where that one is indented above the key.
+-- those that are blank or indented as far as the first that is not blank,
+-- where that one is indented above the key.
 abbrev pub literal_lines : ℕ → List (List ℕ) → List (List ℕ)
 literal_lines column lines =
-    if nat_lt column (first_indentation lines) then take_while (is_literal_line (first_indentation lines)) lines else []
+    if nat_lt column (first_indentation lines)
+    then take_while (is_literal_line (first_indentation lines)) lines
+    else []
 
 -- a line without this indentation, or without the spaces of a shorter one
 abbrev pub unindented : ℕ → List ℕ → List ℕ
@@ -99,11 +105,13 @@ literal_text lines = joined_lines (first_indentation lines) (without_last is_bla
 -- `|-` takes the last line feed off
 abbrev pub literal : List ℕ → List (List ℕ) → List ℕ
 literal rest lines =
-    if bytes_eq rest (codes "|") then literal_text lines else take (length (literal_text lines) - 1) (literal_text lines)
+    if bytes_eq rest (codes "|") then literal_text lines else
+    take (length (literal_text lines) - 1) (literal_text lines)
 
 -- ## Any of them
 
--- the lines that belong to a scalar, of those below its key, which stands at this column; `rest` is what follows the key
+-- the lines that belong to a scalar, of those below its key, which stands at this column;
+-- `rest` is what follows the key
 abbrev pub scalar_lines : ℕ → List ℕ → List (List ℕ) → List (List ℕ)
 scalar_lines column rest lines = if is_literal rest then literal_lines column lines else []
 

@@ -1,5 +1,6 @@
 -- The statements of a rule file: each line that says something, with the lines of its literal.
--- Which lines belong to a literal depends on the line of its key alone, so a file is cut before it is understood.
+-- Which lines belong to a literal depends on the line of its key alone,
+-- so a file is cut before it is understood.
 use Rattle.std.specs.Prelude.{ℕ, zero, suc, ◌+◌, ◌&&◌, Bool, List, [], ◌∷◌, length, drop, if◌then◌else◌, nat_eq, Option, None, Some, codes}
 use Rattle.std.specs.List.{starts_with}
 use Rattle.od_text.specs.Cuts.{split_once}
@@ -36,7 +37,9 @@ pub record Entry : Type 0 where
 abbrev pub cut_entry : Option (List ℕ × List ℕ) → Option Entry
 cut_entry None = None
 cut_entry (Some p) =
-    if is_identifier p.0 && begins_with 32 p.1 then Some (record { key = p.0; rest = drop 1 p.1 }) else None
+    if is_identifier p.0 && begins_with 32 p.1
+    then Some (record { key = p.0; rest = drop 1 p.1 })
+    else None
 
 -- an entry is a key, `:` and a space, and then a scalar
 abbrev pub entry_of : List ℕ → Option Entry
@@ -60,7 +63,8 @@ statement_at line column text lines = record {
 abbrev pub statement_of : ℕ → List ℕ → List (List ℕ) → Statement
 statement_of n line lines = statement_at n (indentation line) (drop (indentation line) line) lines
 
--- the statements of lines, the first of which has the number n; the first k of them belong to the statement before
+-- the statements of lines, the first of which has the number n;
+-- the first k of them belong to the statement before
 abbrev pub statements : (n k : ℕ) → List (List ℕ) → List Statement
 statements n k [] = []
 statements n (suc k) (line ∷ lines) = statements (n + 1) k lines

@@ -1,6 +1,10 @@
 //! Why a grammar is refused.
 ghost use Rattle.std.specs.Prelude.{◌≡◌};
+ghost use Rattle.od_rule_text.specs.Grammars.{limit_of};
 
+use crate::limits::{
+    GRAMMAR_BYTES, GRAMMAR_EXPRESSIONS, GRAMMAR_RULES, GRAMMAR_VARS, PATTERN_BYTES,
+};
 use crate::rule_file::YamlKind;
 use od_language::pattern_fault::PatternKind;
 use od_text::text::{NoMemory, Text};
@@ -18,6 +22,21 @@ pub enum GrammarLimit {
     PatternBytes,
     /// Its different regular expressions: more than there is room for in its script.
     Regexes,
+}
+
+impl GrammarLimit {
+    /// The limit itself, which is allowed.
+    pub fn limit(self) -> u32
+        ensures { result ≡ limit_of self }
+    {
+        match self {
+            GrammarLimit::GrammarBytes => GRAMMAR_BYTES,
+            GrammarLimit::Rules => GRAMMAR_RULES,
+            GrammarLimit::Vars => GRAMMAR_VARS,
+            GrammarLimit::PatternBytes => PATTERN_BYTES,
+            GrammarLimit::Regexes => GRAMMAR_EXPRESSIONS,
+        }
+    }
 }
 
 /// Why a grammar is refused, in the order of testing; memory may be refused at any place.
@@ -73,7 +92,7 @@ pub enum GrammarFault {
     VarCycle {
         var: Text,
     },
-    /// The first fault of the pattern whose variables are replaced, with its place there, in bytes from 0.
+    /// The first fault of the pattern whose variables are replaced; `at` is its place there, in bytes from 0.
     Pattern {
         rule: u32,
         at: u32,
@@ -83,8 +102,8 @@ pub enum GrammarFault {
     UnknownLabel {
         rule: u32,
     },
-    /// A regular expression that its maker refused: the number by first appearance in the grammar, from 1,
-    /// and the rule of that appearance.
+    /// A regular expression that its maker refused: its number by first appearance in the grammar,
+    /// from 1, and the rule of that appearance.
     RegexRefused {
         rule: u32,
         number: u32,

@@ -1,4 +1,4 @@
-//! Rule files and grammars: their types and limits, what can be wrong with them, and the laws of what their texts say.
+//! Rule files and grammars: types, limits, faults, and the laws of what their texts say.
 #![tactic(auto)]
 
 pub mod grammar_fault;

@@ -1,7 +1,9 @@
 //! Laws of what rule files and grammars say, each the contract of a function that does nothing.
 //!
 //! The laws of grammars hold however the texts of patterns are read.
-ghost use Rattle.od_rule_text.specs.Laws.{HasTextFaults, KeepsOrder, KeepsPlainTexts, KeepsWithMoreRoom, ReadsGrammars, ReadsPriorities, ReadsRuleFiles, TellsLines};
+ghost use Rattle.od_rule_text.specs.Laws.{HasTextFaults, KeepsOrder, KeepsPlainTexts};
+ghost use Rattle.od_rule_text.specs.Laws.{KeepsWithMoreRoom};
+ghost use Rattle.od_rule_text.specs.Laws.{ReadsGrammars, ReadsPriorities, ReadsRuleFiles, TellsLines};
 
 /// A text in which no `${` stands is its own expansion, whatever the variables.
 pub fn keeps_plain_texts()
@@ -14,7 +16,8 @@ pub fn keeps_order()
 {}
 
 /// The grammar of a text has its kind and its text.
-/// The names of its rules differ, labels that they name are those of rules, and there is room for its expressions.
+/// The names of its rules differ, the labels that they name are those of rules,
+/// and there is room for its expressions.
 pub fn reads_grammars()
     ensures { ReadsGrammars }
 {}
@@ -29,12 +32,13 @@ pub fn has_text_faults()
     ensures { HasTextFaults }
 {}
 
-/// A text is a priority exactly where it is `n`, `n-m` or `n+`, in decimal digits, with 1 <= n <= m <= 100.
+/// A text is a priority exactly where it is `n`, `n-m` or `n+`, with 1 <= n <= m <= 100 in decimal digits.
 pub fn reads_priorities()
     ensures { ReadsPriorities }
 {}
 
-/// A rule file has some items with some entries each; keys are identifiers, and differ in an item and among the variables.
+/// A rule file has some items with some entries each.
+/// Keys are identifiers, and differ within an item and among the variables.
 pub fn reads_rule_files()
     ensures { ReadsRuleFiles }
 {}

@@ -1,8 +1,7 @@
 -- Grammars, worked out, with small readings of patterns.
-use Rattle.std.specs.Prelude.{◌≡◌, ℕ, refl, ◌==◌, Bool, true, not, if◌then◌else◌, List, [], ◌∷◌, ◌++◌, map, Option, Some, None, Result, Ok, Err, codes}
+use Rattle.std.specs.Prelude.{◌≡◌, ℕ, refl, ◌==◌, not, if◌then◌else◌, List, [], ◌∷◌, ◌++◌, map, Option, Some, None, Result, Ok, Err, codes}
 use Rattle.std.specs.List.{slice_split}
 use Rattle.std.specs.Str.{bytes_eq}
-use Rattle.od_pattern.specs.declared.grammar.GrammarKind.{GrammarKind}
 use Rattle.od_pattern.specs.declared.grammar.GrammarKind.TheVariants.{RuleFile, Query}
 use Rattle.od_pattern.specs.declared.grammar.Grammar.{Grammar}
 use Rattle.od_pattern.specs.declared.pattern.Field.TheVariants.{Norm}
@@ -27,7 +26,7 @@ use Rattle.od_rule_text.specs.Texts.{begins_with}
 use Rattle.od_rule_text.specs.RuleFiles.{rule_file_of}
 use Rattle.od_rule_text.specs.Expansion.{expanded}
 use Rattle.od_rule_text.specs.Priorities.{priority_of}
-use Rattle.od_rule_text.specs.Labels.{surface_labels, parts_labels}
+use Rattle.od_rule_text.specs.Labels.{surface_labels}
 use Rattle.od_rule_text.specs.Expressions.{constraint_expressions, surface_expressions, path_expressions, body_expressions}
 use Rattle.od_rule_text.specs.Grammars.{Patterns, grammar_read, grammar_made}
 
@@ -177,6 +176,11 @@ room_for_three = refl
 room_for_two : fault_with 2 (codes "f") with_expressions ≡ Some (Limit Regexes 64)
 unfolding computing
 room_for_two = refl
+
+-- an unknown label comes before expressions without room
+label_before_room : fault_with 0 (codes "refused") (rules (item (codes "a") (codes "/e @y"))) ≡ Some (UnknownLabel 1)
+unfolding computing
+label_before_room = refl
 
 second_refused : fault_with 3 (codes "f") with_expressions ≡ Some (RegexRefused 1 2)
 unfolding computing

@@ -1,5 +1,5 @@
 -- Rule files that are accepted, worked out.
-use Rattle.std.specs.Prelude.{◌≡◌, ℕ, refl, List, [], ◌∷◌, ◌++◌, Ok, codes}
+use Rattle.std.specs.Prelude.{◌≡◌, ℕ, refl, List, [], ◌∷◌, Ok, codes}
 use Rattle.od_rule_text.specs.declared.rule_file.KeyText.{KeyText}
 use Rattle.od_rule_text.specs.RuleFiles.{rule_file_of}
 

@@ -1,5 +1,5 @@
 -- Scalars, worked out.
-use Rattle.std.specs.Prelude.{◌≡◌, refl, List, [], ◌∷◌, Some, None, codes}
+use Rattle.std.specs.Prelude.{◌≡◌, refl, [], ◌∷◌, Some, None, codes}
 use Rattle.od_rule_text.specs.Scalars.{scalar, literal_lines}
 
 -- ## Plain
