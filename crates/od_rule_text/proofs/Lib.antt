@@ -1,8 +1,10 @@
 -- The lemmas of this crate.
+pub mod Cutting
 pub mod GrammarsRead
 pub mod Outcomes
 pub mod PlainTexts
 pub mod Priorities
+pub mod ReadsBack
 pub mod RuleFilesRead
 pub mod TextFaults
 pub mod Worked

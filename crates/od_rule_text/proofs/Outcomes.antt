@@ -1,6 +1,6 @@
 -- What an answer says of the tests before it.
 use Rattle.std.proofs.Common.{◌≡◌, ◌≤◌, List, ◌∷◌, length, Bool, true, false, refl, subst, Option, Some, None, Result, Ok, Err}
-use Rattle.std.specs.Prelude.{if◌then◌else◌, nat_lt, ◌||◌, not, IfErr}
+use Rattle.std.specs.Prelude.{if◌then◌else◌, nat_lt, ◌&&◌, ◌||◌, not, IfErr}
 use Rattle.std.specs.Option.{option_or}
 use Rattle.std.proofs.lemmas.Bool.{ltb-false}
 use Rattle.od_rule_text.specs.declared.grammar_fault.GrammarLimit.{GrammarLimit}
@@ -9,6 +9,17 @@ use Rattle.od_rule_text.specs.Grammars.{within, limit_of, and_then, one_more, un
 
 pub same_ok : {X E : Type 0} (r : Result X E) (x y : X) → r ≡ Ok x → r ≡ Ok y → x ≡ y
 same_ok r x y e f = cc
+
+pub same_some : {X : Type 0} (o : Option X) (x y : X) → o ≡ Some x → o ≡ Some y → x ≡ y
+same_some o x y e f = cc
+
+pub both : (a b : Bool) → (a && b) ≡ true → (a ≡ true) × (b ≡ true)
+both true b e = (refl, e)
+both false b e = absurd (cc)
+
+pub taken : {X : Type 0} (t : Bool) (o : Option X) (x : X) → (if t then o else None) ≡ Some x → (t ≡ true) × (o ≡ Some x)
+taken true o x e = (refl, e)
+taken false o x e = absurd (cc)
 
 pub neither : (a b : Bool) → (a || b) ≡ false → (a ≡ false) × (b ≡ false)
 neither true b e = absurd (cc)

@@ -1,14 +1,11 @@
 -- A text is a priority exactly where it is written for it.
-use Rattle.std.proofs.Common.{◌≡◌, ◌≢◌, ℕ, zero, suc, ◌+◌, ◌-◌, ◌*◌, ◌<◌, ◌≤◌, List, [], ◌∷◌, ◌++◌, length, take, drop, get_or, Bool, true, false, refl, sym, ap, ◌∙◌, subst, arith, rules, Option, None, Some, drop-cons, add-one, ap₂, length-append}
+use Rattle.std.proofs.Common.{◌≡◌, ◌≢◌, ℕ, zero, suc, ◌+◌, ◌-◌, ◌*◌, ◌<◌, ◌≤◌, List, [], ◌∷◌, ◌++◌, length, get_or, Bool, true, false, refl, sym, ap, ◌∙◌, subst, arith, rules, Option, None, Some, ap₂}
 use Rattle.std.specs.Prelude.{◌==◌, ◌&&◌, if◌then◌else◌, nat_lt, nat_le, not, decimal}
-use Rattle.std.specs.List.{list_all, position_or_len, before_first, after_first}
+use Rattle.std.specs.List.{list_all}
 use Rattle.std.specs.Char.{is_ascii_digit}
 use Rattle.std.specs.Str.{all_ascii_digits}
-use Rattle.std.proofs.lemmas.Bool.{false≢true, ltb-true, ltb-false, leb-true, lt-ltb, le-ltb, le-leb, eqb-true, eq-eqb, ne_eqb}
-use Rattle.std.proofs.lemmas.List.{take-append-drop}
-use Rattle.std.proofs.lemmas.List.Sums.{passes_at_first}
+use Rattle.std.proofs.lemmas.Bool.{false≢true, ltb-false, leb-true, le-ltb, le-leb, eqb-true, eq-eqb, ne_eqb}
 use Rattle.std.proofs.lemmas.List.Folds.{list_all-append}
-use Rattle.std.proofs.lemmas.Grind.{common_steps}
 use Rattle.std.proofs.lemmas.Str.Parse.{IsNumeralModel, numerals_by_fold}
 use Rattle.std.proofs.lemmas.Fmt.{decimal-digits_value, digits_decimal, digits_value-decimal, decimal_nonempty, first_decimal, decimal_digit}
 use Rattle.od_text.specs.Cuts.{split_once}
@@ -17,7 +14,8 @@ use Rattle.od_language.specs.Spelling.{number, value_from}
 use Rattle.od_rule_text.specs.declared.limits.TheConstants.{LAST_ROUND}
 use Rattle.od_rule_text.specs.Priorities.{as_round, round_of, only_in, always_from, from_to, cut_at_plus, cut_at_dash, priority_of}
 use Rattle.od_rule_text.specs.Laws.{IsWritten, one_round, range, endless, ReadsPriorities}
-use Rattle.od_rule_text.proofs.Outcomes.{not_false}
+use Rattle.od_rule_text.proofs.Outcomes.{not_false, same_some, both, taken}
+use Rattle.od_rule_text.proofs.Cutting.{Avoids, cut_parts, cut_at, uncut}
 
 -- ## Digits and their number
 
@@ -38,10 +36,6 @@ all-digits : (text : List ℕ) → list_all is_ascii_digit text ≡ all_ascii_di
 all-digits [] = refl
 all-digits (c ∷ cs) = ap (λ b. is_ascii_digit c && b) (all-digits cs)
 
-both : (a b : Bool) → (a && b) ≡ true → (a ≡ true) × (b ≡ true)
-both true b e = (refl, e)
-both false b e = absurd (cc)
-
 not_both : (a b : Bool) → (a && b) ≡ false → a ≡ true → b ≡ false
 not_both true b e f = e
 not_both false b e f = absurd (cc)
@@ -50,16 +44,9 @@ and_false : (a b : Bool) → (a ≡ true → b ≡ false) → (a && b) ≡ false
 and_false true b h = h refl
 and_false false b h = refl
 
-taken : {X : Type 0} (t : Bool) (o : Option X) (x : X) → (if t then o else None) ≡ Some x → (t ≡ true) × (o ≡ Some x)
-taken true o x e = (refl, e)
-taken false o x e = absurd (cc)
-
 passed_over : {X : Type 0} (t : Bool) (o : Option X) (x : X) → (if t then None else o) ≡ Some x → (t ≡ false) × (o ≡ Some x)
 passed_over true o x e = absurd (cc)
 passed_over false o x e = (refl, e)
-
-same_some : {X : Type 0} (o : Option X) (x y : X) → o ≡ Some x → o ≡ Some y → x ≡ y
-same_some o x y e f = cc
 
 -- in digits of which the first is a 0 that leads no others, the 0 stands alone
 alone : (d : ℕ) (more : List ℕ) → (d == 48 && not (length more == 0)) ≡ false → d ≡ 48 → length (d ∷ more) ≡ 1
@@ -116,50 +103,6 @@ round_written text n e =
 
 written_round : (n : ℕ) → 1 ≤ n → n ≤ LAST_ROUND → round_of (decimal n) ≡ Some n
 written_round n some small = rw (written_digits n (omega (arith, small)), written_number n (omega (arith, small)), le-leb 1 n some, le-leb n LAST_ROUND small) refl
-
--- ## Cutting
-
--- the parts of a cut, joined
-cut_parts : (c : ℕ) (xs : List ℕ) (p : List ℕ × List ℕ) → split_once c xs ≡ Some p → xs ≡ p.0 ++ c ∷ p.1
-cut_parts c xs p e =
-    let at : ℕ = position_or_len (λ b. b == c) xs in
-    let t = taken (nat_lt at (length xs)) (Some (before_first (λ b. b == c) xs, after_first (λ b. b == c) xs)) p e in
-    let within : at < length xs = ltb-true at (length xs) t.0 in
-    let found : get_or xs at 0 ≡ c = eqb-true _ _ (passes_at_first (λ b. b == c) xs 0 within) in
-    let rest : drop at xs ≡ c ∷ drop (at + 1) xs = drop-cons xs at 0 within ∙ rw (found, add-one) refl in
-    let parts : xs ≡ take at xs ++ c ∷ drop (at + 1) xs = sym (take-append-drop at xs) ∙ ap (λ ys. take at xs ++ ys) rest in
-    subst (λ (q : List ℕ × List ℕ). xs ≡ q.0 ++ c ∷ q.1) (same_some _ _ p refl t.1) parts
-
--- that c is not among the elements
-abbrev Avoids : ℕ → List ℕ → Type 0
-Avoids c xs = list_all (λ x. not (x == c)) xs ≡ true
-
-place : (c : ℕ) (a b : List ℕ) → Avoids c a → position_or_len (λ x. x == c) (a ++ c ∷ b) ≡ length a
-place c [] b h = rw (eq-eqb c c refl) refl
-place c (x ∷ a) b h =
-    let t = both (not (x == c)) (list_all (λ y. not (y == c)) a) h in
-    rw t.0 (omega (arith, place c a b t.1))
-
-no_place : (c : ℕ) (xs : List ℕ) → Avoids c xs → position_or_len (λ x. x == c) xs ≡ length xs
-no_place c [] h = refl
-no_place c (x ∷ xs) h =
-    let t = both (not (x == c)) (list_all (λ y. not (y == c)) xs) h in
-    rw t.0 (omega (arith, no_place c xs t.1))
-
-take_front : (a ys : List ℕ) → take (length a) (a ++ ys) ≡ a
-take_front a ys = grind (arith, common_steps)
-
-drop_front : (c : ℕ) (a b : List ℕ) → drop (length a + 1) (a ++ c ∷ b) ≡ b
-drop_front c [] b = refl
-drop_front c (x ∷ a) b =
-    let one_more : length (x ∷ a) + 1 ≡ suc (length a + 1) = omega arith in
-    rw one_more (drop_front c a b)
-
-cut_at : (c : ℕ) (a b : List ℕ) → Avoids c a → split_once c (a ++ c ∷ b) ≡ Some (a, b)
-cut_at c a b h = rw (place c a b h, lt-ltb (length a) (length (a ++ c ∷ b)) (omega (arith, length-append a (c ∷ b))), take_front a (c ∷ b), drop_front c a b) refl
-
-uncut : (c : ℕ) (xs : List ℕ) → Avoids c xs → split_once c xs ≡ None
-uncut c xs h = rw (no_place c xs h, le-ltb (length xs) (length xs) (omega arith)) refl
 
 -- digits have neither `-` nor `+` among them
 digits_avoid : (c : ℕ) → is_ascii_digit c ≡ false → (xs : List ℕ) → list_all is_ascii_digit xs ≡ true → Avoids c xs

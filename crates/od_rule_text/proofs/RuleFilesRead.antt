@@ -16,13 +16,9 @@ use Rattle.od_rule_text.specs.Scalars.{scalar}
 use Rattle.od_rule_text.specs.Statements.{Statement, Entry, entry_text, cut_entry, entry_of, statement_of, statements}
 use Rattle.od_rule_text.specs.RuleFiles.{Section, in_vars, in_rules, Outline, nothing_said, with_last_item, items_of, heading, misplaced, Role, variable, first_key, further_key, role_of, siblings, has_key, with_entry, enter, take_scalar, take_entry, take_role, take_placed, take_unless, take_statement, file_of, goes_on, file_after, rule_file_of}
 use Rattle.od_rule_text.specs.Laws.{HasKeys, IsItem, IsRuleFile, ReadsRuleFiles, TellsLines}
-use Rattle.od_rule_text.proofs.Outcomes.{same_ok, behind_refusal}
+use Rattle.od_rule_text.proofs.Outcomes.{same_ok, both, behind_refusal}
 
 -- ## Keys
-
-both : (a b : Bool) → (a && b) ≡ true → (a ≡ true) × (b ≡ true)
-both true b e = (refl, e)
-both false b e = absurd (cc)
 
 -- the key of an entry is an identifier
 cut_key : (o : Option (List ℕ × List ℕ)) (e : Entry) → cut_entry o ≡ Some e → is_identifier e.key ≡ true

@@ -18,6 +18,7 @@ use Rattle.od_rule_text.specs.declared.rule_file.RuleFile.{RuleFile}
 use Rattle.od_rule_text.specs.declared.rule_file.YamlKind.{YamlKind}
 use Rattle.od_rule_text.specs.Texts.{is_among}
 use Rattle.od_rule_text.specs.RuleFiles.{has_key, rule_file_of}
+use Rattle.od_rule_text.specs.Written.{written_file}
 use Rattle.od_rule_text.specs.Expansion.{has_opening, expanded}
 use Rattle.od_rule_text.specs.Priorities.{priority_of, rule_priority}
 use Rattle.od_rule_text.specs.Items.{RuleType, type_of, value_of, is_rule_name}
@@ -56,6 +57,10 @@ abbrev pub TellsLines : Type 0
 TellsLines =
     (text : List ℕ) (line : ℕ) (kind : YamlKind) → rule_file_of text ≡ Err (line, kind) →
     (1 ≤ line) × (line ≤ max 1 (length (lines text)))
+
+-- a rule file with such keys, written out, is read as what was written
+abbrev pub ReadsBack : Type 0
+ReadsBack = (file : RuleFile) → IsRuleFile file → rule_file_of (written_file file) ≡ Ok file
 
 -- ## Grammars, however patterns are read
 

@@ -11,3 +11,4 @@ pub mod RuleFiles
 pub mod Scalars
 pub mod Statements
 pub mod Texts
+pub mod Written

@@ -2,7 +2,7 @@
 //!
 //! The laws of grammars hold however the texts of patterns are read.
 ghost use Rattle.od_rule_text.specs.Laws.{HasTextFaults, KeepsOrder, KeepsPlainTexts};
-ghost use Rattle.od_rule_text.specs.Laws.{KeepsWithMoreRoom};
+ghost use Rattle.od_rule_text.specs.Laws.{KeepsWithMoreRoom, ReadsBack};
 ghost use Rattle.od_rule_text.specs.Laws.{ReadsGrammars, ReadsPriorities, ReadsRuleFiles, TellsLines};
 
 /// A text in which no `${` stands is its own expansion, whatever the variables.
@@ -46,4 +46,9 @@ pub fn reads_rule_files()
 /// The line of a rule file's first fault is one of its lines, or 1.
 pub fn tells_lines()
     ensures { TellsLines }
+{}
+
+/// A rule file with such keys, written out with each value between double quotes, is read as what was written.
+pub fn reads_back()
+    ensures { ReadsBack }
 {}
