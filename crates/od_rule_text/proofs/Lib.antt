@@ -5,6 +5,7 @@ pub mod Outcomes
 pub mod PlainTexts
 pub mod Priorities
 pub mod ReadsBack
+pub mod Refusals
 pub mod RuleFilesRead
 pub mod TextFaults
 pub mod Worked

@@ -1,6 +1,6 @@
 -- Laws of what rule files and grammars say.
-use Rattle.std.specs.Prelude.{◌≡◌, ◌↔◌, ℕ, ◌≤◌, ◌<◌, false, true, List, [], ◌∷◌, ◌++◌, length, map, max, None, Some, Ok, Err, codes, decimal}
-use Rattle.std.specs.List.{AllZip}
+use Rattle.std.specs.Prelude.{◌≡◌, ◌↔◌, ◌⊎◌, ℕ, ◌+◌, Bool, ◌≤◌, ◌<◌, false, true, List, [], ◌∷◌, ◌++◌, length, map, max, None, Some, Ok, Err, codes, decimal}
+use Rattle.std.specs.List.{AllZip, list_all}
 use Rattle.std.specs.Str.Lines.{lines}
 use Rattle.od_text.specs.Lists.{Each, EachPoint}
 use Rattle.od_pattern.specs.declared.grammar.GrammarKind.{GrammarKind}
@@ -22,8 +22,8 @@ use Rattle.od_rule_text.specs.Written.{written_file}
 use Rattle.od_rule_text.specs.Expansion.{has_opening, expanded}
 use Rattle.od_rule_text.specs.Priorities.{priority_of, rule_priority}
 use Rattle.od_rule_text.specs.Items.{RuleType, type_of, value_of, is_rule_name}
-use Rattle.od_rule_text.specs.Expressions.{expressions_of}
-use Rattle.od_rule_text.specs.Grammars.{Patterns, names_labels_of, body_of, grammar_read}
+use Rattle.od_rule_text.specs.Expressions.{Appearance, first_appearances, expressions_of}
+use Rattle.od_rule_text.specs.Grammars.{Patterns, names_labels_of, body_of, grammar_read, grammar_made}
 
 -- a text in which no `${` stands is its own expansion, whatever the variables
 abbrev pub KeepsPlainTexts : Type 0
@@ -132,6 +132,31 @@ abbrev pub HasTextFaults : Type 0
 HasTextFaults =
     (patterns : Patterns) (kind : GrammarKind) (text : List ℕ) (room : ℕ) (f : GrammarFault) →
     grammar_read patterns kind text room ≡ Err f → IsTextFault f
+
+-- An expression was refused: the text is a grammar, the expressions before this one were accepted,
+-- and the fault tells its number, from 1, and the rule of its first appearance.
+pub record IsRefused (patterns : Patterns) (accepts : List ℕ → Bool) (kind : GrammarKind) (text : List ℕ)
+    (room : ℕ) (f : GrammarFault) : Type 0 where
+  pub grammar : Grammar
+  pub reads : grammar_read patterns kind text room ≡ Ok grammar
+  pub before : List Appearance
+  pub refused : Appearance
+  pub behind : List Appearance
+  pub parts : first_appearances patterns.expressions_in grammar.rules ≡ before ++ refused ∷ behind
+  pub accepted : list_all (λ a. accepts a.expression) before ≡ true
+  pub not_accepted : accepts refused.expression ≡ false
+  pub tells : f ≡ fault.RegexRefused refused.rule (length before + 1)
+
+-- where a grammar is made, the text is one, and all its expressions are accepted;
+-- where none is made, the fault is the text's, or that of the first expression that is not accepted
+pub record MakesGrammars : Type 0 where
+  pub made : (patterns : Patterns) (accepts : List ℕ → Bool) (kind : GrammarKind) (text : List ℕ)
+      (room : ℕ) (grammar : Grammar) → grammar_made patterns accepts kind text room ≡ Ok grammar →
+      (grammar_read patterns kind text room ≡ Ok grammar) ×
+      (list_all accepts (expressions_of patterns.expressions_in grammar.rules) ≡ true)
+  pub refused : (patterns : Patterns) (accepts : List ℕ → Bool) (kind : GrammarKind) (text : List ℕ)
+      (room : ℕ) (f : GrammarFault) → grammar_made patterns accepts kind text room ≡ Err f →
+      (grammar_read patterns kind text room ≡ Err f) ⊎ IsRefused patterns accepts kind text room f
 
 -- ## Priorities
 

@@ -2,15 +2,39 @@
 //!
 //! The laws of grammars hold however the texts of patterns are read.
 ghost use Rattle.od_rule_text.specs.Laws.{HasTextFaults, KeepsOrder, KeepsPlainTexts};
-ghost use Rattle.od_rule_text.specs.Laws.{KeepsWithMoreRoom, ReadsBack};
+ghost use Rattle.od_rule_text.specs.Laws.{KeepsWithMoreRoom, MakesGrammars, ReadsBack};
 ghost use Rattle.od_rule_text.specs.Laws.{ReadsGrammars, ReadsPriorities, ReadsRuleFiles, TellsLines};
+
+/// A rule file has some items with some entries each.
+/// Keys are identifiers, and differ within an item and among the variables.
+pub fn reads_rule_files()
+    ensures { ReadsRuleFiles }
+{}
+
+/// A rule file with such keys, written out with each value between double quotes,
+/// is read as what was written.
+pub fn reads_back()
+    ensures { ReadsBack }
+{}
+
+/// The line of a rule file's first fault is one of its lines, or 1.
+pub fn tells_lines()
+    ensures { TellsLines }
+{}
 
 /// A text in which no `${` stands is its own expansion, whatever the variables.
 pub fn keeps_plain_texts()
     ensures { KeepsPlainTexts }
 {}
 
-/// A grammar has a rule for each item of its rule file, in the order of the file.
+/// A text is a priority exactly where it is `n`, `n-m` or `n+`, in decimal digits,
+/// with 1 <= n <= m <= 100.
+pub fn reads_priorities()
+    ensures { ReadsPriorities }
+{}
+
+/// A grammar has a rule for each item of its rule file, in the order of the file:
+/// the one that the item says.
 pub fn keeps_order()
     ensures { KeepsOrder }
 {}
@@ -32,23 +56,8 @@ pub fn has_text_faults()
     ensures { HasTextFaults }
 {}
 
-/// A text is a priority exactly where it is `n`, `n-m` or `n+`, with 1 <= n <= m <= 100 in decimal digits.
-pub fn reads_priorities()
-    ensures { ReadsPriorities }
-{}
-
-/// A rule file has some items with some entries each.
-/// Keys are identifiers, and differ within an item and among the variables.
-pub fn reads_rule_files()
-    ensures { ReadsRuleFiles }
-{}
-
-/// The line of a rule file's first fault is one of its lines, or 1.
-pub fn tells_lines()
-    ensures { TellsLines }
-{}
-
-/// A rule file with such keys, written out with each value between double quotes, is read as what was written.
-pub fn reads_back()
-    ensures { ReadsBack }
+/// A grammar is made where its text is one and all its expressions are accepted.
+/// Else the fault is the first of the text, or tells the first expression that is not accepted.
+pub fn makes_grammars()
+    ensures { MakesGrammars }
 {}
