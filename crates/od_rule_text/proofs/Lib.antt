@@ -1,6 +1,7 @@
 -- The lemmas of this crate.
 pub mod Cutting
 pub mod GrammarsRead
+pub mod Meanings
 pub mod Outcomes
 pub mod PlainTexts
 pub mod Priorities

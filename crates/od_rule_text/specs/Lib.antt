@@ -6,6 +6,7 @@ pub mod Grammars
 pub mod Items
 pub mod Labels
 pub mod Laws
+pub mod Meanings
 pub mod Priorities
 pub mod RuleFiles
 pub mod Scalars

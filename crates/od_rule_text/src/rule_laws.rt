@@ -4,6 +4,7 @@
 ghost use Rattle.od_rule_text.specs.Laws.{HasTextFaults, KeepsOrder, KeepsPlainTexts};
 ghost use Rattle.od_rule_text.specs.Laws.{KeepsWithMoreRoom, MakesGrammars, ReadsBack};
 ghost use Rattle.od_rule_text.specs.Laws.{ReadsGrammars, ReadsPriorities, ReadsRuleFiles, TellsLines};
+ghost use Rattle.od_rule_text.specs.Meanings.{ExpandsAsMeant};
 
 /// A rule file has some items with some entries each.
 /// Keys are identifiers, and differ within an item and among the variables.
@@ -25,6 +26,13 @@ pub fn tells_lines()
 /// A text in which no `${` stands is its own expansion, whatever the variables.
 pub fn keeps_plain_texts()
     ensures { KeepsPlainTexts }
+{}
+
+/// An expansion is what the text gives, with each variable for what its text gives.
+/// An unknown variable is one that the text reaches and that is not there;
+/// a cycle is told of a variable that the text reaches and that its own text reaches again.
+pub fn expands_as_meant()
+    ensures { ExpandsAsMeant }
 {}
 
 /// A text is a priority exactly where it is `n`, `n-m` or `n+`, in decimal digits,
