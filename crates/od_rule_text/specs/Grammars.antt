@@ -46,6 +46,7 @@ pub record Patterns : Type 0 where
 
 -- ## Limits
 
+-- the limit of each kind
 abbrev pub limit_of : GrammarLimit → ℕ
 limit_of GrammarBytes = GRAMMAR_BYTES
 limit_of Rules = GRAMMAR_RULES
@@ -63,6 +64,7 @@ within which xs answer = if nat_lt (limit_of which) (length xs) then Err (passed
 
 -- ## The entries of a query
 
+-- a key and its text
 abbrev pub entry : List ℕ → List ℕ → KeyText
 entry key value = record { key = key; value = value }
 
@@ -86,6 +88,7 @@ label_fault rules n (rule ∷ more) =
 
 -- ## Answers
 
+-- one value in front of others, where these are there
 abbrev pub one_more : {X : Type 0} → X → Answer (List X) → Answer (List X)
 one_more x (Ok xs) = Ok (x ∷ xs)
 one_more x (Err f) = Err f
@@ -102,6 +105,7 @@ unless (Some f) x = Err f
 
 -- ## Bodies
 
+-- what was read, as a body
 abbrev pub read_as : {X : Type 0} → (X → Body) → Parsed X → Parsed Body
 read_as body (Ok x) = Ok (body x)
 read_as body (Err f) = Err f
@@ -121,6 +125,7 @@ refusal accepts n (a ∷ more) =
     if accepts a.expression then refusal accepts (n + 1) more else Some (fault.RegexRefused a.rule n)
 
 -- ## From a text to its grammar
+
 module _ (patterns : Patterns) where
   -- ## One rule, of the number n from 1
 
@@ -129,21 +134,24 @@ module _ (patterns : Patterns) where
   body_of basic text = read_as Basic (patterns.hop_of text)
   body_of event text = read_as Event (patterns.event_of text)
 
+  -- the rule whose pattern has this text once its variables are replaced
   abbrev pub with_text : (n : ℕ) → Fields → RuleType → Priority → Result (List ℕ) Misfit → Answer Rule
   with_text n f type priority (Err unknown) = Err (fault.UnknownVar n)
   with_text n f type priority (Err (cycle name)) = Err (fault.VarCycle name)
   with_text n f type priority (Ok text) =
       within PatternBytes text (with_body n f priority (body_of type text))
 
+  -- the rule of this priority
   abbrev pub with_priority : List KeyText → (n : ℕ) → Fields → RuleType → Option Priority → Answer Rule
   with_priority vars n f type None = Err (fault.BadPriority n)
   with_priority vars n f type (Some priority) = with_text n f type priority (expanded vars f.pattern)
 
+  -- the rule of this type
   abbrev pub with_type : List KeyText → (n : ℕ) → Fields → Option RuleType → Answer Rule
   with_type vars n f None = Err (fault.BadType n)
   with_type vars n f (Some type) = with_priority vars n f type (rule_priority f.priority)
 
-  -- `names` are those of the earlier rules
+  -- the rule that some fields say; `names` are those of the earlier rules
   abbrev pub with_fields : List KeyText → (n : ℕ) (names : List (List ℕ)) → Option Fields → Answer Rule
   with_fields vars n names None = Err (fault.MissingKey n)
   with_fields vars n names (Some f) =
@@ -191,6 +199,7 @@ module _ (patterns : Patterns) where
   abbrev pub whole_fault : (room : ℕ) → List Rule → Option GrammarFault
   whole_fault room rules = option_or (label_fault rules 1 rules) (room_fault room rules)
 
+  -- these rules as a grammar, unless they have a fault as a whole
   abbrev pub grammar_with : GrammarKind → List ℕ → (room : ℕ) → List Rule → Answer Grammar
   grammar_with kind text room rules =
       unless (whole_fault room rules) (record { kind = kind; text = text; rules = rules })
@@ -203,6 +212,7 @@ module _ (patterns : Patterns) where
   -- ## With a maker, which accepts some expressions
 
   module _ (accepts : List ℕ → Bool) where
+    -- a grammar, unless one of its expressions is not accepted
     abbrev pub unless_refused : Grammar → Answer Grammar
     unless_refused grammar =
         unless (refusal accepts 1 (first_appearances patterns.expressions_in grammar.rules)) grammar

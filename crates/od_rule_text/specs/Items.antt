@@ -46,6 +46,7 @@ fields_with (Some name) (Some label) (Some type) priority (Some pattern) =
     Some (record { name = name; label = label; type = type; priority = priority; pattern = pattern })
 fields_with name label type priority pattern = None
 
+-- the texts of an item
 abbrev pub fields_of : List KeyText → Option Fields
 fields_of entries =
     fields_with (value_of (codes "name") entries) (value_of (codes "label") entries)

@@ -161,14 +161,17 @@ take_entry o role column below (Some e) =
     if has_key e.key (siblings o role) then Err SameKey else
     take_scalar o role column e.key (scalar e.rest below)
 
+-- with a statement that is an entry, where one may begin there
 abbrev pub take_role : Outline → Statement → Option Role → Result Outline YamlKind
 take_role o s None = Err BadKey
 take_role o s (Some role) = take_entry o role s.column s.below (entry_of s.text)
 
+-- with a statement that may stand where it stands: a heading, or an entry
 abbrev pub take_placed : Outline → Statement → Option Section → Result Outline YamlKind
 take_placed o s (Some section) = enter o s.line section
 take_placed o s None = take_role o s (role_of o.section o.items_column s.column s.text)
 
+-- with a statement, unless it may not stand where it stands
 abbrev pub take_unless : Outline → Statement → Option YamlKind → Result Outline YamlKind
 take_unless o s (Some kind) = Err kind
 take_unless o s None = take_placed o s (heading s.column s.text)
@@ -188,6 +191,7 @@ abbrev pub file_of : Outline → List (List KeyText) → Reading
 file_of o [] = Err (unwrap_or o.rules_line 1, NoRules)
 file_of o (item ∷ items) = Ok (record { vars = o.vars; rules = item ∷ items })
 
+-- what follows what was said, or the fault at this line
 abbrev pub goes_on : ℕ → (Outline → Reading) → Result Outline YamlKind → Reading
 goes_on line more (Ok o) = more o
 goes_on line more (Err kind) = Err (line, kind)

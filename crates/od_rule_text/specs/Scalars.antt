@@ -33,6 +33,7 @@ is_plain [] = false
 is_plain (c ∷ text) =
     not (is_indicator c) && not (begins_with_mark (c ∷ text)) && not (has_colon_space (c ∷ text))
 
+-- a text, where it may be a plain scalar
 abbrev pub plain_text : List ℕ → Option (List ℕ)
 plain_text text = if is_plain text then Some text else None
 

@@ -11,6 +11,7 @@ escape c =
     if c == 10 then 92 ∷ 110 ∷ [] else
     c ∷ []
 
+-- a value without its quotes
 abbrev pub escaped_text : List ℕ → List ℕ
 escaped_text [] = []
 escaped_text (c ∷ text) = escape c ++ escaped_text text
@@ -37,5 +38,6 @@ abbrev pub joined : List (List ℕ) → List ℕ
 joined [] = []
 joined (line ∷ more) = line ++ 10 ∷ joined more
 
+-- a rule file as a text
 abbrev pub written_file : RuleFile → List ℕ
 written_file file = joined (file_lines file)
