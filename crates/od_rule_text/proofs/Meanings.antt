@@ -1,5 +1,5 @@
 -- An expansion is what the text gives, and its misfits are what the text reaches.
-use Rattle.std.proofs.Common.{◌≡◌, ℕ, zero, suc, ◌<◌, ◌≤◌, List, [], ◌∷◌, length, Bool, true, false, refl, sym, ap, ◌∙◌, subst, arith, Option, Some, None, Result, Ok, Err, inl, inr, cond}
+use Rattle.std.proofs.Common.{◌≡◌, ℕ, zero, suc, ◌+◌, ◌++◌, ◌<◌, ◌≤◌, List, [], ◌∷◌, length, Bool, true, false, refl, sym, ap, ap₂, ◌∙◌, subst, arith, Option, Some, None, Result, Ok, Err, inl, inr, cond}
 use Rattle.std.specs.Prelude.{◌⊎◌, ◌||◌, not, if◌then◌else◌}
 use Rattle.std.specs.List.{find, filter}
 use Rattle.std.specs.Str.{bytes_eq}
@@ -140,8 +140,117 @@ module _ (vars : List KeyText) where
   text_meant text (Err (cycle name)) (reach, inl e) = absurd (cc)
   text_meant text (Err (cycle name)) (reach, inr own) = (reach, own)
 
-pub expands_as_meant : ExpandsAsMeant
+meant : (vars : List KeyText) (text : List ℕ) → IsMeant vars text (expanded vars text)
 unfolding expanded Agrees
-expands_as_meant vars text =
+meant vars text =
     text_meant vars text (joined (λ name. expansion (length vars) vars [] name) (pieces 0 text))
     (joined_means vars [] (λ name. expansion (length vars) vars [] name) (expansion_means vars (length vars) vars [] (λ name out. refl) (omega arith)) (pieces 0 text))
+
+-- ## What a text gives is its expansion
+
+-- the size of a derivation
+height : {vars : List KeyText} {ps : List Piece} {r : List ℕ} → Gives vars ps r → ℕ
+height nothing = 0
+height (byte c more text g) = height g + 1
+height (variable name v more front text found inner g) = height inner + height g + 1
+
+-- how an occurrence gives a text, by a derivation of this size
+record ByVariable (vars : List KeyText) (name : List ℕ) (more : List Piece) (r : List ℕ) (size : ℕ) : Type 0 where
+  v : KeyText
+  front : List ℕ
+  text : List ℕ
+  found : find (is_named name) vars ≡ Some v
+  inner : Gives vars (pieces 0 v.value) front
+  rest : Gives vars more text
+  parts : r ≡ front ++ text
+  smaller : height inner + height rest + 1 ≡ size
+
+record ByByte (vars : List KeyText) (c : ℕ) (more : List Piece) (r : List ℕ) (size : ℕ) : Type 0 where
+  text : List ℕ
+  rest : Gives vars more text
+  parts : r ≡ c ∷ text
+  smaller : height rest + 1 ≡ size
+
+-- a derivation by its first piece
+abbrev ByFirst : List KeyText → List Piece → List ℕ → ℕ → Type 0
+ByFirst vars [] r size = r ≡ []
+ByFirst vars (stays c ∷ more) r size = ByByte vars c more r size
+ByFirst vars (occurs name ∷ more) r size = ByVariable vars name more r size
+
+by_first : (vars : List KeyText) (ps : List Piece) (r : List ℕ) (g : Gives vars ps r) → ByFirst vars ps r (height g)
+unfolding height
+by_first vars _ _ nothing = refl
+by_first vars _ _ (byte c more text g) = record { text = text; rest = g; parts = refl; smaller = refl }
+by_first vars _ _ (variable name v more front text found inner g) =
+    record { v = v; front = front; text = text; found = found; inner = inner; rest = g; parts = refl; smaller = refl }
+
+same_variable : (o : Option KeyText) (v w : KeyText) → o ≡ Some v → o ≡ Some w → v ≡ w
+same_variable o v w e f = cc
+
+module _ (vars : List KeyText) where
+  -- pieces give one text at most
+  one_text : (ps : List Piece) (r s : List ℕ) → Gives vars ps r → Gives vars ps s → r ≡ s
+  one_text _ _ s nothing h = sym (by_first vars [] s h)
+  one_text _ _ s (byte c more text g) h =
+      let f = by_first vars (stays c ∷ more) s h in
+      ap (λ xs. c ∷ xs) (one_text more text f.text g f.rest) ∙ sym f.parts
+  one_text _ _ s (variable name v more front text found inner g) h =
+      let f = by_first vars (occurs name ∷ more) s h in
+      let same : f.v ≡ v = same_variable _ f.v v f.found found in
+      let fronts : front ≡ f.front = one_text (pieces 0 v.value) front f.front inner (subst (λ (w : KeyText). Gives vars (pieces 0 w.value) f.front) same f.inner) in
+      ap₂ (λ (a b : List ℕ). a ++ b) fronts (one_text more text f.text g f.rest) ∙ sym f.parts
+
+  -- what a name gives that pieces with a text reach, by a smaller derivation
+  record Inside (name : List ℕ) (size : ℕ) : Type 0 where
+    v : KeyText
+    found : find (is_named name) vars ≡ Some v
+    front : List ℕ
+    inner : Gives vars (pieces 0 v.value) front
+    smaller : height inner < size
+
+  widened : (name : List ℕ) (size larger : ℕ) → size ≤ larger → Inside name size → Inside name larger
+  widened name size larger le i = record { v = i.v; found = i.found; front = i.front; inner = i.inner; smaller = omega (arith, le, i.smaller) }
+
+  -- what a variable's text gives by a derivation below this size
+  record SmallerGives (size : ℕ) (v : KeyText) : Type 0 where
+    front : List ℕ
+    inner : Gives vars (pieces 0 v.value) front
+    smaller : height inner < size
+
+  inside : (name : List ℕ) (ps : List Piece) (r : List ℕ) (g : Gives vars ps r) → Reaches vars name ps → Inside name (height g)
+  inside name _ r g (here more) =
+      let f = by_first vars (occurs name ∷ more) r g in
+      record { v = f.v; found = f.found; front = f.front; inner = f.inner; smaller = omega (arith, f.smaller) }
+  inside name _ r g (later (stays c) more reach) =
+      let f = by_first vars (stays c ∷ more) r g in
+      widened name (height f.rest) (height g) (omega (arith, f.smaller)) (inside name more f.text f.rest reach)
+  inside name _ r g (later (occurs other) more reach) =
+      let f = by_first vars (occurs other ∷ more) r g in
+      widened name (height f.rest) (height g) (omega (arith, f.smaller)) (inside name more f.text f.rest reach)
+  inside name _ r g (through other v more found reach) =
+      let f = by_first vars (occurs other ∷ more) r g in
+      let same : f.v ≡ v = same_variable _ f.v v f.found found in
+      let smaller : height f.inner < height g = omega (arith, f.smaller) in
+      let of = subst (SmallerGives (height g)) same (record { front = f.front; inner = f.inner; smaller = smaller }) in
+      widened name (height of.inner) (height g) (omega (arith, of.smaller)) (inside name (pieces 0 v.value) of.front of.inner reach)
+
+  -- so none is a cycle: its derivation would have a smaller one within, for ever
+  no_cycle : (size : ℕ) (name : List ℕ) → IsCycle vars name → Inside name size → ⊥
+  no_cycle zero name own i = absurd (omega (arith, i.smaller))
+  no_cycle (suc size) name own i =
+      let same : own.variable ≡ i.v = same_variable _ own.variable i.v own.there i.found in
+      let again : Reaches vars name (pieces 0 i.v.value) = subst (λ (w : KeyText). Reaches vars name (pieces 0 w.value)) same own.again in
+      no_cycle size name own (widened name (height i.inner) size (omega (arith, i.smaller)) (inside name (pieces 0 i.v.value) i.front i.inner again))
+
+  given_by : (text result : List ℕ) (r : Result (List ℕ) Misfit) → IsMeant vars text r → Gives vars (pieces 0 text) result → r ≡ Ok result
+  given_by text result (Ok expansion) h g = ap (λ x. Ok x) (one_text (pieces 0 text) expansion result h g)
+  given_by text result (Err unknown) h g =
+      let i = inside h.0 (pieces 0 text) result g h.1 in
+      absurd (none_some (find (is_named h.0) vars) i.v h.2 i.found)
+    where
+      none_some : (o : Option KeyText) (v : KeyText) → o ≡ None → o ≡ Some v → ⊥
+      none_some o v e f = absurd (cc)
+  given_by text result (Err (cycle name)) h g = absurd (no_cycle (height g) name h.1 (inside name (pieces 0 text) result g h.0))
+
+pub expands_as_meant : ExpandsAsMeant
+expands_as_meant = record { meant = meant; given = λ vars text result g. given_by vars text result (expanded vars text) (meant vars text) g }

@@ -32,6 +32,7 @@ IsMeant vars text (Ok expansion) = Gives vars (pieces 0 text) expansion
 IsMeant vars text (Err unknown) = (name : List ℕ) × Reaches vars name (pieces 0 text) × (find (is_named name) vars ≡ None)
 IsMeant vars text (Err (cycle name)) = Reaches vars name (pieces 0 text) × IsCycle vars name
 
--- so it is with every text
-abbrev pub ExpandsAsMeant : Type 0
-ExpandsAsMeant = (vars : List KeyText) (text : List ℕ) → IsMeant vars text (expanded vars text)
+-- so it is with every text, and what a text gives is its expansion
+pub record ExpandsAsMeant : Type 0 where
+  pub meant : (vars : List KeyText) (text : List ℕ) → IsMeant vars text (expanded vars text)
+  pub given : (vars : List KeyText) (text result : List ℕ) → Gives vars (pieces 0 text) result → expanded vars text ≡ Ok result

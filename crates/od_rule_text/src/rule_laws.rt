@@ -28,7 +28,7 @@ pub fn keeps_plain_texts()
     ensures { KeepsPlainTexts }
 {}
 
-/// An expansion is what the text gives, with each variable for what its text gives.
+/// An expansion is exactly what the text gives, with each variable for what its text gives.
 /// An unknown variable is one that the text reaches and that is not there;
 /// a cycle is told of a variable that the text reaches and that its own text reaches again.
 pub fn expands_as_meant()
