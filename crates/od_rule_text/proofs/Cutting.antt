@@ -1,5 +1,5 @@
 -- Cutting a text at the first place of a byte.
-use Rattle.std.proofs.Common.{◌≡◌, ℕ, suc, ◌+◌, ◌<◌, List, [], ◌∷◌, ◌++◌, length, take, drop, get_or, true, refl, sym, ap, ◌∙◌, subst, arith, None, Some, drop-cons, add-one, length-append}
+use Rattle.std.proofs.Common.{slice_index, ◌-◌, ◌≡◌, ℕ, suc, ◌+◌, ◌<◌, List, [], ◌∷◌, ◌++◌, length, take, drop, get_or, true, refl, sym, ap, ◌∙◌, subst, arith, None, Some, drop-cons, add-one, length-append}
 use Rattle.std.specs.Prelude.{◌==◌, nat_lt, not}
 use Rattle.std.specs.List.{list_all, position_or_len, before_first, after_first, slice_split}
 use Rattle.std.proofs.lemmas.Bool.{ltb-true, lt-ltb, le-ltb, eqb-true, eq-eqb}
@@ -60,3 +60,13 @@ split_line c a b h =
     let front : before_first (λ x. x == c) (a ++ c ∷ b) ≡ a = rw at (take_front a (c ∷ b)) in
     let rest : after_first (λ x. x == c) (a ++ c ∷ b) ≡ b = rw at (drop_front c a b) in
     slice_split_first (λ x. x == c) (a ++ c ∷ b) 0 within ∙ rw (front, rest) refl
+
+-- the last byte of a text
+pub last_byte : (xs : List ℕ) (c : ℕ) → slice_index (xs ++ c ∷ []) (length (xs ++ c ∷ []) - 1) ≡ c
+last_byte xs c =
+    let at : length (xs ++ c ∷ []) - 1 ≡ length xs = omega (arith, length-append xs (c ∷ [])) in
+    rw at (at_end xs c)
+  where
+    at_end : (xs : List ℕ) (c : ℕ) → get_or (xs ++ c ∷ []) (length xs) 0 ≡ c
+    at_end [] c = refl
+    at_end (x ∷ xs) c = at_end xs c

@@ -7,6 +7,7 @@ pub mod PlainTexts
 pub mod Priorities
 pub mod ReadsBack
 pub mod Refusals
+pub mod Returns
 pub mod RuleFilesRead
 pub mod TextFaults
 pub mod Worked

@@ -1,5 +1,5 @@
 -- A rule file that is written out is read as what was written.
-use Rattle.std.proofs.Common.{◌≡◌, ◌≢◌, ℕ, ◌+◌, ◌-◌, ◌<◌, List, [], ◌∷◌, ◌++◌, length, map, get_or, Bool, true, false, refl, sym, ap, ap₂, ◌∙◌, subst, arith, Option, None, Some, Ok, length-append, append_assoc, append-nil}
+use Rattle.std.proofs.Common.{◌≡◌, ◌≢◌, ℕ, ◌+◌, ◌-◌, ◌<◌, List, [], ◌∷◌, ◌++◌, length, map, Bool, true, false, refl, sym, ap, ap₂, ◌∙◌, subst, arith, Option, None, Some, Ok, append_assoc, append-nil}
 use Rattle.std.specs.Prelude.{◌==◌, ◌&&◌, ◌||◌, if◌then◌else◌, nat_lt, not, slice_index, codes}
 use Rattle.std.specs.List.{list_all, slice_split, flat_map}
 use Rattle.std.specs.Str.Lines.{lines, lines_of_parts, strip_carriage_return}
@@ -20,7 +20,7 @@ use Rattle.od_rule_text.specs.Blanks.{says_nothing, indentation}
 use Rattle.od_rule_text.specs.RuleFiles.{Reading, in_vars, in_rules, Outline, nothing_said, with_last_item, fits, heading, misplaced, Role, variable, first_key, further_key, role_of, siblings, has_key, with_entry, take_entry, take_role, take_placed, take_unless, take_statement, goes_on, file_of, file_after, rule_file_of}
 use Rattle.od_rule_text.specs.Laws.{HasKeys, IsItem, IsRuleFile, ReadsBack}
 use Rattle.od_rule_text.proofs.Outcomes.{both}
-use Rattle.od_rule_text.proofs.Cutting.{Avoids, cut_at, split_line}
+use Rattle.od_rule_text.proofs.Cutting.{Avoids, cut_at, split_line, last_byte}
 
 -- ## Values
 
@@ -118,16 +118,6 @@ fed_entry : (e : KeyText) → IsKey e.key → Avoids 10 (written_entry e)
 fed_entry e k =
     avoids-append 10 e.key (58 ∷ 32 ∷ 34 ∷ (escaped_text e.value ++ 34 ∷ [])) (no_such 10 refl e.key k.characters)
     (avoids-append 10 (escaped_text e.value) (34 ∷ []) (fed_text e.value) refl)
-
--- the last byte of a line that ends with `"`
-last_byte : (xs : List ℕ) (c : ℕ) → slice_index (xs ++ c ∷ []) (length (xs ++ c ∷ []) - 1) ≡ c
-last_byte xs c =
-    let at : length (xs ++ c ∷ []) - 1 ≡ length xs = omega (arith, length-append xs (c ∷ [])) in
-    rw at (at_end xs c)
-  where
-    at_end : (xs : List ℕ) (c : ℕ) → get_or (xs ++ c ∷ []) (length xs) 0 ≡ c
-    at_end [] c = refl
-    at_end (x ∷ xs) c = at_end xs c
 
 ends_so : (front : List ℕ) (e : KeyText) → (slice_index (front ++ written_entry e) (length (front ++ written_entry e) - 1) == 13) ≡ false
 ends_so front e =

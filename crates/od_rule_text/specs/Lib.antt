@@ -8,6 +8,7 @@ pub mod Labels
 pub mod Laws
 pub mod Meanings
 pub mod Priorities
+pub mod Returns
 pub mod RuleFiles
 pub mod Scalars
 pub mod Statements

@@ -5,6 +5,7 @@ ghost use Rattle.od_rule_text.specs.Laws.{HasTextFaults, KeepsOrder, KeepsPlainT
 ghost use Rattle.od_rule_text.specs.Laws.{KeepsWithMoreRoom, MakesGrammars, ReadsBack};
 ghost use Rattle.od_rule_text.specs.Laws.{ReadsGrammars, ReadsPriorities, ReadsRuleFiles, TellsLines};
 ghost use Rattle.od_rule_text.specs.Meanings.{ExpandsAsMeant};
+ghost use Rattle.od_rule_text.specs.Returns.{ReadsReturns};
 
 /// A rule file has some items with some entries each.
 /// Keys are identifiers, and differ within an item and among the variables.
@@ -16,6 +17,11 @@ pub fn reads_rule_files()
 /// is read as what was written.
 pub fn reads_back()
     ensures { ReadsBack }
+{}
+
+/// A rule file without carriage returns says the same with one before each line feed.
+pub fn reads_returns()
+    ensures { ReadsReturns }
 {}
 
 /// The line of a rule file's first fault is one of its lines, or 1.
