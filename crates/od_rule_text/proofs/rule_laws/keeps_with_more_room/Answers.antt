@@ -1,0 +1,5 @@
+use Rattle.od_rule_text.proofs.GrammarsRead as laws
+use Rattle.od_rule_text.proofs.rule_laws.keeps_with_more_room.Goals as goal
+
+pub returns : goal.returns
+returns c = laws.keeps_with_more_room
