@@ -1,0 +1,37 @@
+-- Segments and the documents that they stand for.
+use Rattle.std.proofs.Common.{◌≡◌, ℕ, ◌+◌, List, ◌++◌, length, map, refl, sym, ap, ap₂, ◌∙◌, subst, arith, length-append}
+use Rattle.std.proofs.lemmas.List.{map-append}
+use Rattle.std.proofs.lemmas.List.Concat.{flat_map-append}
+use Rattle.od_document.specs.declared.doc.Doc.{Doc}
+use Rattle.od_index.specs.Sites.{Site, sites, later, sentences_in}
+use Rattle.od_index.specs.Terms.{Term, terms_of, sentence_terms}
+use Rattle.od_index.specs.Tables.{IsTableOf}
+use Rattle.od_index.specs.Segments.{Stored, StandsFor, merged}
+use Rattle.od_index.specs.Laws.{OneSegment, MergedStands}
+use Rattle.od_index.proofs.Numbered.{sites-join, sentences-later}
+use Rattle.od_index.proofs.Tables.{one-table, tables-join}
+
+abbrev stored : ℕ → List Site → List Term → Stored
+stored documents sites table = record { documents = documents; sites = sites; table = table }
+
+pub one-segment : OneSegment
+one-segment docs a b p q =
+    let same : a.sites ≡ b.sites = p.sentences ∙ sym q.sentences in
+    let terms : IsTableOf (terms_of (sentences_in b.sites)) a.table = subst (λ (ss : List Site). IsTableOf (terms_of (sentences_in ss)) a.table) same p.terms in
+    ap₂ (λ n ss. stored n ss a.table) (p.count ∙ sym q.count) same
+    ∙ ap (stored b.documents b.sites) (one-table (terms_of (sentences_in b.sites)) a.table b.table terms q.terms)
+
+-- the terms of the sentences of two segments
+terms-join : (a b : List Site) (n : ℕ) → terms_of (sentences_in (a ++ map (later n) b)) ≡ terms_of (sentences_in a) ++ terms_of (sentences_in b)
+terms-join a b n =
+    ap terms_of (map-append (λ (site : Site). site.words) a (map (later n) b) ∙ ap (λ ss. sentences_in a ++ ss) (sentences-later n b))
+    ∙ flat_map-append sentence_terms (sentences_in a) (sentences_in b)
+
+pub merged-stands : MergedStands
+merged-stands docs more left right table p q t = record {
+  count = ap₂ (λ m n. m + n) p.count q.count ∙ sym (length-append docs more);
+  sentences =
+      ap₂ (λ a b. a ++ b) p.sentences (ap₂ (λ n ss. map (later n) ss) p.count q.sentences) ∙ sym (sites-join docs more);
+  terms = subst (λ (terms : List Term). IsTableOf terms table) (sym (terms-join left.sites right.sites left.documents))
+      (tables-join (terms_of (sentences_in left.sites)) (terms_of (sentences_in right.sites)) left.table right.table table p.terms q.terms t);
+}

@@ -1,0 +1,78 @@
+-- The laws of tables, postings and segments.
+use Rattle.std.specs.Prelude.{◌≡◌, ◌≤◌, ℕ, List, [], ◌∷◌, ◌++◌, Contains, length, map, take, sum_by}
+use Rattle.od_document.specs.declared.doc.Doc.{Doc}
+use Rattle.od_document.specs.declared.sentence.Sentence.{Sentence}
+use Rattle.od_pattern.specs.declared.pattern.Field.{Field}
+use Rattle.od_index.specs.Sites.{sites, later, sentences_in}
+use Rattle.od_index.specs.Terms.{Term, terms_of, sentence_terms}
+use Rattle.od_index.specs.Tables.{IsTableOf, IsNumber}
+use Rattle.od_index.specs.Sentences.{HasTerms}
+use Rattle.od_index.specs.Postings.{Posting, shifted, postings, edges_with, IsEdgePosting, AreEdgePostings}
+use Rattle.od_index.specs.Segments.{Stored, StandsFor, Tiles, size, sites_after, merged}
+use Rattle.od_index.specs.Views.{Seen, sites_seen}
+
+-- some terms have one table at most
+abbrev pub OneTable : Type 0
+OneTable = (terms a b : List Term) → IsTableOf terms a → IsTableOf terms b → a ≡ b
+
+-- each of the terms has a number in the table
+abbrev pub EachIsNumbered : Type 0
+EachIsNumbered = (terms table : List Term) (field : Field) (text : List ℕ) → IsTableOf terms table → Contains terms (field, text) → (n : ℕ) × IsNumber table field text n
+
+-- and no more than one
+abbrev pub OneNumber : Type 0
+OneNumber = (terms table : List Term) (field : Field) (text : List ℕ) (m n : ℕ) → IsTableOf terms table → IsNumber table field text m → IsNumber table field text n → m ≡ n
+
+-- tables of some terms and of others, joined, are tabled as the terms are
+abbrev pub TablesJoin : Type 0
+TablesJoin = (a b left right table : List Term) → IsTableOf a left → IsTableOf b right → IsTableOf (left ++ right) table → IsTableOf (a ++ b) table
+
+-- a table of sentences has the terms of each of them
+abbrev pub TableServes : Type 0
+TableServes = (sentences : List Sentence) (s : Sentence) (table : List Term) → IsTableOf (terms_of sentences) table → Contains sentences s → HasTerms table (sentence_terms s)
+
+-- the sentences of documents and of others after them: those of the first, and then the rest as many documents later
+abbrev pub SitesJoin : Type 0
+SitesJoin = (docs more : List Doc) → sites (docs ++ more) ≡ sites docs ++ map (later (length docs)) (sites more)
+
+-- the posting list of a term over sentences and others after them: the second part, as many sentences later
+abbrev pub PostingsJoin : Type 0
+PostingsJoin = (term : Term) (a b : List Sentence) → postings term (a ++ b) ≡ postings term a ++ map (shifted (length a)) (postings term b)
+
+-- the same of edges
+abbrev pub EdgesJoin : Type 0
+EdgesJoin = (label : List ℕ) (a b : List Sentence) → edges_with label (a ++ b) ≡ edges_with label a ++ map (shifted (length a)) (edges_with label b)
+
+-- a label has one posting list at most
+abbrev pub OneEdgePosting : Type 0
+OneEdgePosting = (label : List ℕ) (sentences : List Sentence) (a b : List Posting) → IsEdgePosting label sentences a → IsEdgePosting label sentences b → a ≡ b
+
+-- documents have one segment at most
+abbrev pub OneSegment : Type 0
+OneSegment = (docs : List Doc) (a b : Stored) → StandsFor docs a → StandsFor docs b → a ≡ b
+
+-- where segments tile documents, their sentences are those of the documents, each once and in order
+abbrev pub TilesHaveAll : Type 0
+TilesHaveAll = (segments : List Stored) (docs : List Doc) → Tiles segments docs → sites_after 0 segments ≡ sites docs
+
+-- their sizes are, together, the number of sentences
+abbrev pub SizesSum : Type 0
+SizesSum = (segments : List Stored) (docs : List Doc) → Tiles segments docs → sum_by size segments ≡ sum_by (λ doc. length doc.sentences) docs
+
+-- what is seen of them are the sentences of the first documents
+abbrev pub FirstAreSeen : Type 0
+FirstAreSeen = (v : Seen) (docs : List Doc) → Tiles v.segments docs → sites_seen v ≡ sites (take v.documents docs)
+
+-- a segment more tiles with its documents behind the others
+abbrev pub TilesGrow : Type 0
+TilesGrow = (segments : List Stored) (docs more : List Doc) (s : Stored) → Tiles segments docs → StandsFor more s → Tiles (segments ++ s ∷ []) (docs ++ more)
+
+-- two segments merged stand for the documents of both
+abbrev pub MergedStands : Type 0
+MergedStands = (docs more : List Doc) (left right : Stored) (table : List Term)
+    → StandsFor docs left → StandsFor more right → IsTableOf (left.table ++ right.table) table → StandsFor (docs ++ more) (merged left right table)
+
+-- neighbours that are merged tile the same documents
+abbrev pub TilesMerge : Type 0
+TilesMerge = (before behind : List Stored) (left right : Stored) (table : List Term) (docs : List Doc)
+    → Tiles (before ++ left ∷ right ∷ behind) docs → IsTableOf (left.table ++ right.table) table → Tiles (before ++ merged left right table ∷ behind) docs

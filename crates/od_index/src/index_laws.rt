@@ -1,0 +1,57 @@
+//! The laws of tables, postings and segments, which hold of every document.
+//!
+//! A law is what a function here ensures; the function itself does nothing.
+ghost use Rattle.od_index.specs.Laws.{OneTable, EachIsNumbered, OneNumber, TablesJoin, TableServes, SitesJoin, PostingsJoin, EdgesJoin, OneEdgePosting, OneSegment, TilesHaveAll, SizesSum, FirstAreSeen, TilesGrow, MergedStands, TilesMerge};
+
+/// Some terms have one table at most.
+pub fn table_is_unique()
+    ensures { OneTable }
+{}
+
+/// In a table each of its terms has exactly one number.
+pub fn terms_are_numbered()
+    ensures each { EachIsNumbered }
+    ensures one { OneNumber }
+{}
+
+/// The table of two tables is the table of the terms of both, and a table of sentences has the terms of each of them.
+pub fn tables_join()
+    ensures join { TablesJoin }
+    ensures serves { TableServes }
+{}
+
+/// The sentences of documents, and then those of others, which stand as many documents later.
+pub fn sites_join()
+    ensures { SitesJoin }
+{}
+
+/// Posting lists of sentences and of others after them: the second part comes as many sentences later.
+pub fn postings_join()
+    ensures terms { PostingsJoin }
+    ensures edges { EdgesJoin }
+{}
+
+/// A label has one posting list at most.
+pub fn edge_posting_is_unique()
+    ensures { OneEdgePosting }
+{}
+
+/// Documents have one segment at most.
+pub fn segment_is_unique()
+    ensures { OneSegment }
+{}
+
+/// Segments that tile documents have each of their sentences once, in order; what is seen of the segments are
+/// the sentences of the first documents.
+pub fn tiles_have_all()
+    ensures all { TilesHaveAll }
+    ensures sizes { SizesSum }
+    ensures seen { FirstAreSeen }
+{}
+
+/// A segment may be added behind the others, and neighbours may be merged: they tile the documents still.
+pub fn tiles_change()
+    ensures grow { TilesGrow }
+    ensures merged { MergedStands }
+    ensures merge { TilesMerge }
+{}
