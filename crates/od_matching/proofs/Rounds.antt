@@ -1,5 +1,9 @@
 pub mod Examples
 pub mod Joined
+pub mod Kept
+pub mod Later
 pub mod Lying
+pub mod New
+pub mod Stands
 pub mod Walks
 pub mod Weights

@@ -26,16 +26,27 @@ abbrev pub items_of : ℕ → Site → Outcome → List Item
 items_of rule site (mentions ms) = map one ms
 items_of rule site (crowded count) = crowd rule site.document site.number count ∷ []
 
+-- what a rule finds on a sentence, against the mentions of that sentence
+abbrev pub outcome_at : List Mention → Rule → Site → Outcome
+outcome_at old rule site = rule_mentions rule site.document site.number site.words (in_sentence site.document site.number old)
+
 abbrev pub items_at : List Mention → ℕ × Rule → Site → List Item
-items_at old rule site = items_of rule.0 site (rule_mentions rule.1 site.document site.number site.words (in_sentence site.document site.number old))
+items_at old rule site = items_of rule.0 site (outcome_at old rule.1 site)
 
--- for one rule the sentences in the order of the documents
+-- what a rule gives on sentences, in their order
+abbrev pub items_over : List Site → List Mention → ℕ × Rule → List Item
+items_over ss old rule = flat_map (λ site. items_at old rule site) ss
+
+-- what the rules of a round give on them, in the order of the file
+abbrev pub items_in : List Site → Grammar → ℕ → List Mention → List Item
+items_in ss g r old = flat_map (λ rule. items_over ss old rule) (rules_in r g)
+
+-- the same over the sentences of documents, in the order of the documents
 abbrev pub items_by : List Doc → List Mention → ℕ × Rule → List Item
-items_by docs old rule = flat_map (λ site. items_at old rule site) (sites docs)
+items_by docs old rule = items_over (sites docs) old rule
 
--- the rules in the order of the file
 abbrev pub items : List Doc → Grammar → ℕ → List Mention → List Item
-items docs g r old = flat_map (λ rule. items_by docs old rule) (rules_in r g)
+items docs g r old = items_in (sites docs) g r old
 
 -- a new mention, which may be too heavy
 abbrev pub weighed : List Mention → List Mention → Mention → RoundResult
@@ -48,13 +59,21 @@ walked old (Found new) (crowd rule document sentence count) = Crowded rule docum
 walked old (Crowded rule document sentence count) item = Crowded rule document sentence count
 walked old (TooMany total) item = TooMany total
 
--- round r over the documents, against mentions without repeats
-abbrev pub walk : List Doc → Grammar → ℕ → List Mention → RoundResult
-walk docs g r old = fold (walked old) (Found []) (items docs g r old)
+-- a walk over items, against mentions without repeats
+abbrev pub walk_over : List Mention → List Item → RoundResult
+walk_over old xs = fold (walked old) (Found []) xs
 
--- round r over the documents, against the mentions that are there; each of these counts once
-unfoldable pub round : List Doc → Grammar → ℕ → List Mention → RoundResult
-round docs g r old = walk docs g r (distinct old)
+-- round r over sentences, against the mentions that are there; each of these counts once
+unfoldable pub round_over : List Site → Grammar → ℕ → List Mention → RoundResult
+round_over ss g r old = walk_over (distinct old) (items_in ss g r (distinct old))
+
+-- the same over documents, against mentions without repeats
+abbrev pub walk : List Doc → Grammar → ℕ → List Mention → RoundResult
+walk docs g r old = walk_over old (items docs g r old)
+
+-- round r over the sentences of documents
+abbrev pub round : List Doc → Grammar → ℕ → List Mention → RoundResult
+round docs g r old = round_over (sites docs) g r old
 
 -- the lists with one found more, where the round was not refused
 abbrev pub with_found : List (List Mention) → RoundResult → Option (List (List Mention))

@@ -1,0 +1,24 @@
+-- Documents that are committed later.
+use Rattle.std.proofs.Common.{◌≡◌, ℕ, ◌+◌, ◌≤◌, List, [], ◌∷◌, ◌++◌, length, take, map, filter, flat_map, Bool, false, cond, ◌&&◌, ◌==◌, refl, sym, ap, ap₂, ◌∙◌, arith, ne_eqb}
+use Rattle.std.proofs.lemmas.List.{take-append-le}
+use Rattle.std.proofs.lemmas.List.Concat.{flat_map-append}
+use Rattle.od_text.specs.Lists.{Each}
+use Rattle.od_document.specs.declared.doc.Doc.{Doc}
+use Rattle.od_index.specs.Sites.{later}
+use Rattle.od_index.proofs.Numbered.{sites-join}
+use Rattle.od_extraction.specs.declared.mention.Mention.{Mention}
+use Rattle.od_matching.specs.Rounds.Laws.{ItemsJoin, LaterIsNew, LaterAddNothing}
+use Rattle.od_matching.specs.Rounds.Round.{in_sentence, items_at, items_over, round}
+use Rattle.od_matching.specs.Rounds.Sites.{Site, sites}
+
+pub items-join : ItemsJoin
+items-join docs more old rule =
+    ap (flat_map (items_at old rule)) (sites-join docs more) ∙ flat_map-append (items_at old rule) (sites docs) (map (later (length docs)) (sites more))
+
+pub later-is-new : LaterIsNew
+later-is-new n site [] h = refl
+later-is-new n site (m ∷ old) h =
+    ap₂ (λ b ms. cond (b && m.sentence == site.number) (m ∷ ms) ms) (ne_eqb m.document (n + site.document) (λ e. omega (arith, e, h.0))) (later-is-new n site old h.1)
+
+pub later-add-nothing : LaterAddNothing
+later-add-nothing n docs more g r old h = ap (λ ds. round ds g r old) (take-append-le n docs more h)
