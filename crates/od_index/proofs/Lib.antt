@@ -1,7 +1,10 @@
 -- The lemmas of this crate.
+pub mod Examples
 pub mod Members
 pub mod Numbered
 pub mod Orders
+pub mod Placed
+pub mod Postings
 pub mod Segments
 pub mod Tables
 pub mod Tiles

@@ -5,11 +5,12 @@ use Rattle.std.proofs.lemmas.List.Concat.{flat_map-append}
 use Rattle.od_document.specs.declared.doc.Doc.{Doc}
 use Rattle.od_index.specs.Sites.{Site, sites, later, sentences_in}
 use Rattle.od_index.specs.Terms.{Term, terms_of, sentence_terms}
-use Rattle.od_index.specs.Tables.{IsTableOf}
-use Rattle.od_index.specs.Segments.{Stored, StandsFor, merged}
-use Rattle.od_index.specs.Laws.{OneSegment, MergedStands}
+use Rattle.od_index.specs.Tables.{IsTableOf, term_cmp}
+use Rattle.od_index.specs.Segments.{Stored, StandsFor, segment_of, merged}
+use Rattle.od_index.specs.Laws.{OneSegment, SegmentIsComputed, MergedStands}
 use Rattle.od_index.proofs.Numbered.{sites-join, sentences-later}
-use Rattle.od_index.proofs.Tables.{one-table, tables-join}
+use Rattle.od_index.proofs.Placed.{ascending-is}
+use Rattle.od_index.proofs.Tables.{one-table, tables-join, terms-exact}
 
 abbrev stored : ℕ → List Site → List Term → Stored
 stored documents sites table = record { documents = documents; sites = sites; table = table }
@@ -20,6 +21,9 @@ one-segment docs a b p q =
     let terms : IsTableOf (terms_of (sentences_in b.sites)) a.table = subst (λ (ss : List Site). IsTableOf (terms_of (sentences_in ss)) a.table) same p.terms in
     ap₂ (λ n ss. stored n ss a.table) (p.count ∙ sym q.count) same
     ∙ ap (stored b.documents b.sites) (one-table (terms_of (sentences_in b.sites)) a.table b.table terms q.terms)
+
+pub segment-is : SegmentIsComputed
+segment-is docs = record { count = refl; sentences = refl; terms = ascending-is term_cmp terms-exact (terms_of (sentences_in (sites docs))) }
 
 -- the terms of the sentences of two segments
 terms-join : (a b : List Site) (n : ℕ) → terms_of (sentences_in (a ++ map (later n) b)) ≡ terms_of (sentences_in a) ++ terms_of (sentences_in b)

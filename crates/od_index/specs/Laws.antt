@@ -5,15 +5,19 @@ use Rattle.od_document.specs.declared.sentence.Sentence.{Sentence}
 use Rattle.od_pattern.specs.declared.pattern.Field.{Field}
 use Rattle.od_index.specs.Sites.{sites, later, sentences_in}
 use Rattle.od_index.specs.Terms.{Term, terms_of, sentence_terms}
-use Rattle.od_index.specs.Tables.{IsTableOf, IsNumber}
+use Rattle.od_index.specs.Tables.{IsTableOf, table_of, IsNumber}
 use Rattle.od_index.specs.Sentences.{HasTerms}
-use Rattle.od_index.specs.Postings.{Posting, shifted, postings, edges_with, IsEdgePosting, AreEdgePostings}
-use Rattle.od_index.specs.Segments.{Stored, StandsFor, Tiles, size, sites_after, merged}
+use Rattle.od_index.specs.Postings.{Posting, ArePostings, shifted, postings, edges_with, IsEdgePosting, edge_postings, AreLabels, labels_of, AreEdgePostings}
+use Rattle.od_index.specs.Segments.{Stored, StandsFor, segment_of, Tiles, size, sites_after, merged}
 use Rattle.od_index.specs.Views.{Seen, sites_seen}
 
 -- some terms have one table at most
 abbrev pub OneTable : Type 0
 OneTable = (terms a b : List Term) → IsTableOf terms a → IsTableOf terms b → a ≡ b
+
+-- and one that is computed
+abbrev pub TableIsComputed : Type 0
+TableIsComputed = (terms : List Term) → IsTableOf terms (table_of terms)
 
 -- each of the terms has a number in the table
 abbrev pub EachIsNumbered : Type 0
@@ -43,6 +47,32 @@ PostingsJoin = (term : Term) (a b : List Sentence) → postings term (a ++ b) �
 abbrev pub EdgesJoin : Type 0
 EdgesJoin = (label : List ℕ) (a b : List Sentence) → edges_with label (a ++ b) ≡ edges_with label a ++ map (shifted (length a)) (edges_with label b)
 
+-- the posting list of a term ascends
+abbrev pub PostingsAscend : Type 0
+PostingsAscend = (term : Term) (sentences : List Sentence) → ArePostings (postings term sentences)
+
+-- the posting list of a label over sentences and others after them is made of those of both
+abbrev pub EdgePostingsJoin : Type 0
+EdgePostingsJoin =
+    (label : List ℕ) (a b : List Sentence) (left right : List Posting)
+    → IsEdgePosting label a left → IsEdgePosting label b right → IsEdgePosting label (a ++ b) (left ++ map (shifted (length a)) right)
+
+-- the posting list of a label is computed
+abbrev pub EdgePostingIsComputed : Type 0
+EdgePostingIsComputed = (label : List ℕ) (sentences : List Sentence) → IsEdgePosting label sentences (edge_postings label sentences)
+
+-- and so are the different labels
+abbrev pub LabelsAreComputed : Type 0
+LabelsAreComputed = (sentences : List Sentence) → AreLabels sentences (labels_of sentences)
+
+-- sentences have one list of labels at most
+abbrev pub OneListOfLabels : Type 0
+OneListOfLabels = (sentences : List Sentence) (a b : List (List ℕ)) → AreLabels sentences a → AreLabels sentences b → a ≡ b
+
+-- sentences have one list of labels with their posting lists at most
+abbrev pub OneListOfEdges : Type 0
+OneListOfEdges = (sentences : List Sentence) (a b : List (List ℕ × List Posting)) → AreEdgePostings sentences a → AreEdgePostings sentences b → a ≡ b
+
 -- a label has one posting list at most
 abbrev pub OneEdgePosting : Type 0
 OneEdgePosting = (label : List ℕ) (sentences : List Sentence) (a b : List Posting) → IsEdgePosting label sentences a → IsEdgePosting label sentences b → a ≡ b
@@ -50,6 +80,10 @@ OneEdgePosting = (label : List ℕ) (sentences : List Sentence) (a b : List Post
 -- documents have one segment at most
 abbrev pub OneSegment : Type 0
 OneSegment = (docs : List Doc) (a b : Stored) → StandsFor docs a → StandsFor docs b → a ≡ b
+
+-- and one that is computed
+abbrev pub SegmentIsComputed : Type 0
+SegmentIsComputed = (docs : List Doc) → StandsFor docs (segment_of docs)
 
 -- where segments tile documents, their sentences are those of the documents, each once and in order
 abbrev pub TilesHaveAll : Type 0

@@ -3,16 +3,21 @@ use Rattle.std.specs.Prelude.{ℕ, ◌+◌, ◌*◌, List, map, filter, flat_map
 use Rattle.std.specs.List.{enumerate_from, list_any}
 use Rattle.std.specs.Ordering.{nat_cmp}
 use Rattle.std.specs.Cmp.Lexicographic.{slice_cmp}
+use Rattle.std.specs.List.Sorted.{IsStrictlySortedBy}
 use Rattle.od_text.specs.Lists.{Each}
 use Rattle.od_document.specs.declared.token.Edge.{Edge}
 use Rattle.od_document.specs.declared.sentence.Sentence.{Sentence}
-use Rattle.od_index.specs.Ascending.{IsAscendingOf, pair_cmp}
+use Rattle.od_index.specs.Ascending.{IsAscendingOf, pair_cmp, ascending}
 use Rattle.od_index.specs.Terms.{Term, terms_at}
 use Rattle.od_index.specs.Tables.{same_term}
 
 -- a posting: the number of a sentence, and what is said of that sentence
 abbrev pub Posting : Type 0
 Posting = ℕ × ℕ
+
+-- by sentences, and within one by what is said of it
+abbrev pub ArePostings : List Posting → Type 0
+ArePostings list = IsStrictlySortedBy pair_cmp list
 
 -- the same posting, with n sentences more before its own
 abbrev pub shifted : ℕ → Posting → Posting
@@ -42,6 +47,10 @@ edges_with label sentences = flat_map (edges_in label) (enumerate_from 0 sentenc
 abbrev pub IsEdgePosting : List ℕ → List Sentence → List Posting → Type 0
 IsEdgePosting label sentences list = IsAscendingOf pair_cmp (edges_with label sentences) list
 
+-- it is computed by putting one edge after another into its place
+abbrev pub edge_postings : List ℕ → List Sentence → List Posting
+edge_postings label sentences = ascending pair_cmp (edges_with label sentences)
+
 -- the labels of all edges, with repeats
 abbrev pub edge_labels : List Sentence → List (List ℕ)
 edge_labels sentences = flat_map (λ s. map (λ edge. edge.label) s.edges) sentences
@@ -49,6 +58,10 @@ edge_labels sentences = flat_map (λ s. map (λ edge. edge.label) s.edges) sente
 -- the different labels, ascending by their bytes
 abbrev pub AreLabels : List Sentence → List (List ℕ) → Type 0
 AreLabels sentences labels = IsAscendingOf (slice_cmp nat_cmp) (edge_labels sentences) labels
+
+-- they are computed in the same way
+abbrev pub labels_of : List Sentence → List (List ℕ)
+labels_of sentences = ascending (slice_cmp nat_cmp) (edge_labels sentences)
 
 -- for each of the different labels, ascending, its posting list
 pub record AreEdgePostings (sentences : List Sentence) (lists : List (List ℕ × List Posting)) : Type 0 where

@@ -3,7 +3,7 @@ use Rattle.std.specs.Prelude.{◌≡◌, ℕ, ◌+◌, List, [], ◌∷◌, ◌+
 use Rattle.od_document.specs.declared.doc.Doc.{Doc}
 use Rattle.od_index.specs.Sites.{Site, sites, later, sentences_in}
 use Rattle.od_index.specs.Terms.{Term, terms_of}
-use Rattle.od_index.specs.Tables.{IsTableOf}
+use Rattle.od_index.specs.Tables.{IsTableOf, table_of}
 
 -- what is seen of a segment: so many documents, their sentences where they stand, and a table of its own
 pub record Stored : Type 0 where
@@ -16,6 +16,10 @@ pub record StandsFor (docs : List Doc) (s : Stored) : Type 0 where
   pub count : s.documents ≡ length docs
   pub sentences : s.sites ≡ sites docs
   pub terms : IsTableOf (terms_of (sentences_in s.sites)) s.table
+
+-- the segment of documents
+abbrev pub segment_of : List Doc → Stored
+segment_of docs = record { documents = length docs; sites = sites docs; table = table_of (terms_of (sentences_in (sites docs))) }
 
 -- segments tile documents: each stands for the first of those that are left, and none is left in the end
 abbrev pub Tiles : List Stored → List Doc → Type 0

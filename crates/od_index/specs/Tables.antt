@@ -6,7 +6,7 @@ use Rattle.std.specs.Cmp.Lexicographic.{slice_cmp}
 use Rattle.std.specs.List.Sorted.{IsStrictlySortedBy}
 use Rattle.od_pattern.specs.declared.pattern.Field.{Field}
 use Rattle.od_pattern.specs.declared.pattern.Field.TheVariants.{Word, Norm, Lemma, Upos, Tag, Entity, Chunk, Incoming, Outgoing}
-use Rattle.od_index.specs.Ascending.{IsAscendingOf}
+use Rattle.od_index.specs.Ascending.{IsAscendingOf, ascending}
 use Rattle.od_index.specs.Terms.{Term}
 
 -- the place of a field among the fields
@@ -36,6 +36,10 @@ IsAscending table = IsStrictlySortedBy term_cmp table
 -- a table of some terms: exactly these, ascending
 abbrev pub IsTableOf : List Term → List Term → Type 0
 IsTableOf terms table = IsAscendingOf term_cmp terms table
+
+-- it is computed by putting one term after another into its place
+abbrev pub table_of : List Term → List Term
+table_of terms = ascending term_cmp terms
 
 -- number n of the table is this text in this field
 abbrev pub IsNumber : List Term → Field → List ℕ → ℕ → Type 0

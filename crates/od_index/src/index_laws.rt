@@ -1,11 +1,12 @@
 //! The laws of tables, postings and segments, which hold of every document.
 //!
 //! A law is what a function here ensures; the function itself does nothing.
-ghost use Rattle.od_index.specs.Laws.{OneTable, EachIsNumbered, OneNumber, TablesJoin, TableServes, SitesJoin, PostingsJoin, EdgesJoin, OneEdgePosting, OneSegment, TilesHaveAll, SizesSum, FirstAreSeen, TilesGrow, MergedStands, TilesMerge};
+ghost use Rattle.od_index.specs.Laws.{OneTable, TableIsComputed, EachIsNumbered, OneNumber, TablesJoin, TableServes, SitesJoin, PostingsJoin, EdgesJoin, PostingsAscend, EdgePostingsJoin, OneEdgePosting, EdgePostingIsComputed, OneListOfLabels, LabelsAreComputed, OneListOfEdges, OneSegment, SegmentIsComputed, TilesHaveAll, SizesSum, FirstAreSeen, TilesGrow, MergedStands, TilesMerge};
 
-/// Some terms have one table at most.
+/// Some terms have exactly one table.
 pub fn table_is_unique()
-    ensures { OneTable }
+    ensures one { OneTable }
+    ensures computed { TableIsComputed }
 {}
 
 /// In a table each of its terms has exactly one number.
@@ -31,14 +32,29 @@ pub fn postings_join()
     ensures edges { EdgesJoin }
 {}
 
-/// A label has one posting list at most.
-pub fn edge_posting_is_unique()
-    ensures { OneEdgePosting }
+/// Posting lists ascend, and those of a label over two lists of sentences make the one over both.
+pub fn postings_ascend()
+    ensures terms { PostingsAscend }
+    ensures edges { EdgePostingsJoin }
 {}
 
-/// Documents have one segment at most.
+/// A label has exactly one posting list.
+pub fn edge_posting_is_unique()
+    ensures one { OneEdgePosting }
+    ensures computed { EdgePostingIsComputed }
+{}
+
+/// Sentences have exactly one ascending list of labels, and one with the posting list of each.
+pub fn labels_are_unique()
+    ensures one { OneListOfLabels }
+    ensures computed { LabelsAreComputed }
+    ensures edges { OneListOfEdges }
+{}
+
+/// Documents have exactly one segment.
 pub fn segment_is_unique()
-    ensures { OneSegment }
+    ensures one { OneSegment }
+    ensures computed { SegmentIsComputed }
 {}
 
 /// Segments that tile documents have each of their sentences once, in order; what is seen of the segments are

@@ -4,6 +4,7 @@ pub mod Kept
 pub mod Later
 pub mod Lying
 pub mod New
+pub mod Refusals
 pub mod Stands
 pub mod Walks
 pub mod Weights
