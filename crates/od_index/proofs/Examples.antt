@@ -1,20 +1,19 @@
 -- A small table, posting lists, and three documents in two segments, worked out.
-use Rattle.std.proofs.Common.{◌≡◌, ℕ, ◌<◌, ◌≤◌, List, [], ◌∷◌, length, map, refl, lit<, lit≤}
+use Rattle.std.proofs.Common.{◌≡◌, ℕ, ◌<◌, List, [], ◌∷◌, map, refl, lit<, lit≤}
 use Rattle.std.proofs.lemmas.List.Elements.{All-from_recursion}
-use Rattle.std.specs.Prelude.{codes, Option, Some, None, slice_get}
+use Rattle.std.specs.Prelude.{codes, Some, None, slice_get}
 use Rattle.std.specs.List.{AllByRecursion}
-use Rattle.od_document.specs.Edges.{EndsWithin, AreDistinct}
-use Rattle.od_document.specs.Weight.{weight_of}
+use Rattle.od_document.specs.Edges.{EndsWithin}
 use Rattle.od_document.specs.declared.token.Token.{Token}
 use Rattle.od_document.specs.declared.token.Edge.{Edge}
 use Rattle.od_document.specs.declared.sentence.Sentence.{Sentence}
 use Rattle.od_document.specs.declared.doc.Doc.{Doc}
 use Rattle.od_pattern.specs.declared.pattern.Field.TheVariants.{Word, Norm, Lemma, Incoming, Outgoing}
-use Rattle.od_index.specs.Sites.{Site, sites, sentences_in}
+use Rattle.od_index.specs.Sites.{Site, sites}
 use Rattle.od_index.specs.Terms.{Term, terms_of}
 use Rattle.od_index.specs.Tables.{term_cmp, IsTableOf, table_of, IsNumber}
-use Rattle.od_index.specs.Postings.{postings, edges_with, edge_postings, labels_of}
-use Rattle.od_index.specs.Segments.{Stored, StandsFor, Tiles, segment_of, size, sites_after, merged}
+use Rattle.od_index.specs.Postings.{postings, edges_with, edge_postings, labels_in}
+use Rattle.od_index.specs.Segments.{Stored, Tiles, segment_of, size, sites_after, merged}
 use Rattle.od_index.specs.Views.{sites_seen}
 use Rattle.od_index.proofs.Placed.{ascending-is}
 use Rattle.od_index.proofs.Segments.{segment-is}
@@ -113,7 +112,7 @@ in_the_text = refl
 edges_posted : edge_postings (codes "dep") (bark ∷ letters ∷ []) ≡ (1, 1) ∷ (1, 131072) ∷ []
 edges_posted = refl
 
-labels_listed : labels_of (dogs_bark ∷ letters ∷ dogs_bark ∷ []) ≡ codes "dep" ∷ codes "nsubj" ∷ []
+labels_listed : labels_in (dogs_bark ∷ letters ∷ dogs_bark ∷ []) ≡ codes "dep" ∷ codes "nsubj" ∷ []
 labels_listed = refl
 
 -- ## Three documents in two segments

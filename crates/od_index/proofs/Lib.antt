@@ -1,4 +1,5 @@
 -- The lemmas of this crate.
+pub mod Counts
 pub mod Examples
 pub mod Members
 pub mod Numbered

@@ -3,12 +3,10 @@ use Rattle.std.proofs.Common.{◌≡◌, ℕ, suc, ◌+◌, List, [], ◌∷◌,
 use Rattle.std.specs.List.{enumerate_from}
 use Rattle.std.proofs.lemmas.List.{map-append}
 use Rattle.od_document.specs.declared.doc.Doc.{Doc}
-use Rattle.od_document.specs.declared.sentence.Sentence.{Sentence}
 use Rattle.od_document.specs.declared.token.Token.{Token}
 use Rattle.od_document.specs.declared.token.Edge.{Edge}
-use Rattle.od_index.specs.Sites.{Site, sites_of, sites_from, sites, later, sentences_in}
-use Rattle.od_index.specs.Terms.{Term}
-use Rattle.od_index.specs.Postings.{Posting, shifted, postings_in, postings, edges_in, edges_with, ends_number}
+use Rattle.od_index.specs.Sites.{Site, sites_of, sites_from, later, sentences_in}
+use Rattle.od_index.specs.Postings.{shifted, postings_in, edges_in, ends_number}
 use Rattle.od_index.specs.Laws.{SitesJoin, PostingsJoin, EdgesJoin}
 
 pub map-map : {X Y Z : Type 0} (g : Y → Z) (f : X → Y) (xs : List X) → map g (map f xs) ≡ map (λ x. g (f x)) xs

@@ -1,9 +1,8 @@
 -- Ascending lists are known by their elements.
-use Rattle.std.proofs.Common.{◌≡◌, ℕ, suc, zero, List, [], ◌∷◌, refl, sym, ◌∙◌, ap, ap₂, subst, arith, Ordering, slice_get, Some, inl, inr}
-use Rattle.std.specs.Prelude.{Contains, ◌<◌, ◌⊎◌, get_or}
-use Rattle.std.specs.declared.cmp.Ordering.TheVariants.{Less, Equal, Greater}
+use Rattle.std.proofs.Common.{◌≡◌, ℕ, suc, zero, List, [], ◌∷◌, refl, sym, ap, ap₂, subst, arith, Ordering, slice_get, Some, inl, inr}
+use Rattle.std.specs.Prelude.{Contains, ◌<◌, ◌⊎◌}
+use Rattle.std.specs.declared.cmp.Ordering.TheVariants.{Less, Equal}
 use Rattle.std.specs.Ordering.{nat_cmp}
-use Rattle.std.specs.List.{AllByRecursion}
 use Rattle.std.specs.List.Sorted.{IsStrictlySortedBy}
 use Rattle.std.specs.Cmp.Lexicographic.{slice_cmp}
 use Rattle.std.proofs.lemmas.Cmp.{then_total, on_total, nat_cmp_total, nat_list_cmp_total, tied_itself}

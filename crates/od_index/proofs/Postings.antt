@@ -1,7 +1,6 @@
 -- Posting lists ascend, and have one order.
 use Rattle.std.proofs.Common.{◌≡◌, ℕ, suc, ◌+◌, ◌≤◌, ◌<◌, List, [], ◌∷◌, ◌++◌, length, map, filter, flat_map, Bool, true, false, cond, refl, sym, ◌∙◌, ap, ap₂, subst, arith, lt-ltb, inl, inr}
-use Rattle.std.specs.Prelude.{Contains, ◌⊎◌, nat_lt, ◌==◌}
-use Rattle.std.specs.declared.cmp.Ordering.{Ordering}
+use Rattle.std.specs.Prelude.{Contains, ◌⊎◌, ◌==◌}
 use Rattle.std.specs.declared.cmp.Ordering.TheVariants.{Less, Equal, Greater}
 use Rattle.std.specs.Ordering.{ordering_then, nat_cmp}
 use Rattle.std.specs.List.{enumerate_from, list_any, AllByRecursion}
@@ -13,12 +12,12 @@ use Rattle.std.proofs.lemmas.List.Elements.{Contains-append_cases, Contains-appe
 use Rattle.od_text.specs.Lists.{Each}
 use Rattle.od_document.specs.declared.token.Token.{Token}
 use Rattle.od_document.specs.declared.sentence.Sentence.{Sentence}
-use Rattle.od_index.specs.Ascending.{IsAscendingOf, pair_cmp}
+use Rattle.od_index.specs.Ascending.{pair_cmp}
 use Rattle.od_index.specs.Laws.{PostingsAscend, EdgePostingsJoin, OneListOfEdges}
-use Rattle.od_index.specs.Postings.{Posting, shifted, postings_in, postings, edges_in, edges_with, ends_number, AreEdgePostings, IsEdgePosting, ArePostings}
+use Rattle.od_index.specs.Postings.{Posting, shifted, postings_in, edges_in, edges_with, ends_number, IsEdgePosting}
 use Rattle.od_index.specs.Terms.{Term, terms_at}
 use Rattle.od_index.specs.Tables.{same_term}
-use Rattle.od_index.proofs.Members.{Contains-map, Contains-from_map, Contains-none, Contains-head, Contains-tail, Contains-cases}
+use Rattle.od_index.proofs.Members.{Contains-map, Contains-from_map, Contains-none, Contains-head, Contains-tail}
 use Rattle.od_index.proofs.Numbered.{edges-join}
 use Rattle.od_index.proofs.Orders.{one-ascending, pairs-exact, texts-exact}
 use Rattle.od_index.proofs.Placed.{sorted-cons, sorted-nil, sorted-append}

@@ -1,12 +1,11 @@
 -- Segments and the documents that they stand for.
-use Rattle.std.proofs.Common.{◌≡◌, ℕ, ◌+◌, List, ◌++◌, length, map, refl, sym, ap, ap₂, ◌∙◌, subst, arith, length-append}
+use Rattle.std.proofs.Common.{◌≡◌, ℕ, ◌+◌, List, ◌++◌, map, refl, sym, ap, ap₂, ◌∙◌, subst, length-append}
 use Rattle.std.proofs.lemmas.List.{map-append}
 use Rattle.std.proofs.lemmas.List.Concat.{flat_map-append}
-use Rattle.od_document.specs.declared.doc.Doc.{Doc}
 use Rattle.od_index.specs.Sites.{Site, sites, later, sentences_in}
 use Rattle.od_index.specs.Terms.{Term, terms_of, sentence_terms}
 use Rattle.od_index.specs.Tables.{IsTableOf, term_cmp}
-use Rattle.od_index.specs.Segments.{Stored, StandsFor, segment_of, merged}
+use Rattle.od_index.specs.Segments.{Stored}
 use Rattle.od_index.specs.Laws.{OneSegment, SegmentIsComputed, MergedStands}
 use Rattle.od_index.proofs.Numbered.{sites-join, sentences-later}
 use Rattle.od_index.proofs.Placed.{ascending-is}

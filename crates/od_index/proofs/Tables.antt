@@ -1,7 +1,7 @@
 -- Tables of terms.
-use Rattle.std.proofs.Common.{◌≡◌, ℕ, List, [], ◌∷◌, ◌++◌, refl, sym, ◌∙◌, ap, subst, inl, inr, flat_map}
+use Rattle.std.proofs.Common.{◌≡◌, ℕ, ◌+◌, ◌≤◌, length, arith, Ordering, List, [], ◌∷◌, ◌++◌, refl, sym, ◌∙◌, ap, subst, inl, inr}
 use Rattle.std.specs.Prelude.{Contains, ◌⊎◌, get_or}
-use Rattle.std.specs.declared.cmp.Ordering.TheVariants.{Equal}
+use Rattle.std.specs.declared.cmp.Ordering.TheVariants.{Less, Equal, Greater}
 use Rattle.std.specs.Ordering.{nat_cmp}
 use Rattle.std.specs.Cmp.Lexicographic.{slice_cmp}
 use Rattle.std.proofs.lemmas.Cmp.{then_total, on_total, nat_cmp_total, nat_list_cmp_total}
@@ -10,12 +10,13 @@ use Rattle.std.proofs.lemmas.List.Elements.{Contains-append_cases, Contains-appe
 use Rattle.od_document.specs.declared.sentence.Sentence.{Sentence}
 use Rattle.od_pattern.specs.declared.pattern.Field.{Field}
 use Rattle.od_pattern.specs.declared.pattern.Field.TheVariants.{Word, Norm, Lemma, Upos, Tag, Entity, Chunk, Incoming, Outgoing}
-use Rattle.od_index.specs.Ascending.{IsAscendingOf, IsExactOrder}
+use Rattle.od_index.specs.Ascending.{IsExactOrder, put_by, put_in}
 use Rattle.od_index.specs.Terms.{Term, sentence_terms, terms_of}
-use Rattle.od_index.specs.Tables.{field_place, term_cmp, IsTableOf}
-use Rattle.od_index.specs.Laws.{OneTable, EachIsNumbered, OneNumber, TablesJoin, TableServes}
+use Rattle.od_index.specs.Tables.{field_place, term_cmp, table_of}
+use Rattle.od_index.specs.Laws.{OneTable, TableIsShort, EachIsNumbered, OneNumber, TablesJoin, TableServes}
 use Rattle.od_index.proofs.Members.{Contains-cases, Contains-none, Each-from_in, slice_get-contained}
 use Rattle.od_index.proofs.Orders.{one-ascending, one-place}
+use Rattle.od_index.proofs.Placed.{ascending-is}
 
 abbrev all_fields : List Field
 all_fields = Word ∷ Norm ∷ Lemma ∷ Upos ∷ Tag ∷ Entity ∷ Chunk ∷ Incoming ∷ Outgoing ∷ []
@@ -49,6 +50,27 @@ terms-exact = (then_total (on_total (λ (t : Term). field_place t.0) nat_cmp_tot
 
 pub one-table : OneTable
 one-table terms a b p q = one-ascending term_cmp terms-exact terms a b p q
+
+-- ## Lengths
+
+put-by : (o : Ordering) (x y : Term) (ys rest : List Term) → length rest ≤ length ys + 1 → length (put_by o x y ys rest) ≤ length (y ∷ ys) + 1
+put-by Less x y ys rest h = omega arith
+put-by Equal x y ys rest h = omega arith
+put-by Greater x y ys rest h = omega (arith, h)
+
+put-in : (x : Term) (ys : List Term) → length (put_in term_cmp x ys) ≤ length ys + 1
+put-in x [] = omega arith
+put-in x (y ∷ ys) = put-by (term_cmp x y) x y ys (put_in term_cmp x ys) (put-in x ys)
+
+computed-short : (terms : List Term) → length (table_of terms) ≤ length terms
+computed-short [] = omega arith
+computed-short (x ∷ xs) = omega (arith, put-in x (table_of xs), computed-short xs)
+
+pub table-short : TableIsShort
+table-short terms table p =
+    subst (λ (t : List Term). length t ≤ length terms) (one-table terms (table_of terms) table (ascending-is term_cmp terms-exact terms) p) (computed-short terms)
+
+-- ## Numbers
 
 pub each-numbered : EachIsNumbered
 each-numbered terms table field text p c = slice_get-contained table (field, text) (p.has (field, text) c)

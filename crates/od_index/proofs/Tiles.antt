@@ -1,6 +1,6 @@
 -- Segments that tile documents.
-use Rattle.std.proofs.Common.{◌≡◌, ℕ, zero, suc, ◌+◌, ◌≤◌, ◌<◌, List, [], ◌∷◌, ◌++◌, length, take, drop, map, filter, flat_map, sum_by, Bool, true, false, cond, refl, sym, ap, ap₂, ◌∙◌, subst, arith, take-append-drop, take-add, drop-drop, take_all, length-append, length-take}
-use Rattle.std.specs.Prelude.{nat_lt, min}
+use Rattle.std.proofs.Common.{◌≡◌, ℕ, zero, suc, ◌+◌, ◌≤◌, List, [], ◌∷◌, ◌++◌, length, take, drop, map, filter, sum_by, Bool, true, false, cond, refl, sym, ap, ap₂, ◌∙◌, subst, arith, take-append-drop, take-add, drop-drop, take_all, length-append, length-take}
+use Rattle.std.specs.Prelude.{nat_lt}
 use Rattle.std.specs.List.{enumerate_from}
 use Rattle.std.proofs.lemmas.Bool.{lt-ltb, le-ltb}
 use Rattle.std.proofs.lemmas.List.{length-map, drop_all, take-append-le, drop-append-le}
@@ -8,11 +8,8 @@ use Rattle.std.proofs.lemmas.List.Elements.{filter-append}
 use Rattle.std.proofs.lemmas.List.Sums.{sum_by-cons}
 use Rattle.od_document.specs.declared.doc.Doc.{Doc}
 use Rattle.od_document.specs.declared.sentence.Sentence.{Sentence}
-use Rattle.od_index.specs.Sites.{Site, sites_of, sites_from, sites, later}
-use Rattle.od_index.specs.Terms.{Term}
-use Rattle.od_index.specs.Tables.{IsTableOf}
+use Rattle.od_index.specs.Sites.{Site, sites_of, sites_from, later}
 use Rattle.od_index.specs.Segments.{Stored, StandsFor, Tiles, size, sites_after, merged}
-use Rattle.od_index.specs.Views.{Seen, sites_seen}
 use Rattle.od_index.specs.Laws.{TilesHaveAll, SizesSum, FirstAreSeen, TilesGrow, TilesMerge}
 use Rattle.od_index.proofs.Numbered.{sites-moved, sites-append}
 use Rattle.od_index.proofs.Segments.{merged-stands}
@@ -47,7 +44,7 @@ length-numbered : {X Y : Type 0} (f : ℕ × X → Y) (n : ℕ) (xs : List X) �
 length-numbered f n [] = refl
 length-numbered f n (x ∷ xs) = ap suc (length-numbered f (n + 1) xs)
 
-length-sites : (k : ℕ) (docs : List Doc) → length (sites_from k docs) ≡ sum_by (λ doc. length doc.sentences) docs
+pub length-sites : (k : ℕ) (docs : List Doc) → length (sites_from k docs) ≡ sum_by (λ doc. length doc.sentences) docs
 length-sites k [] = refl
 length-sites k (d ∷ docs) =
     length-append (sites_of (k, d)) (sites_from (k + 1) docs)

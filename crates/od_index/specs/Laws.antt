@@ -1,13 +1,13 @@
 -- The laws of tables, postings and segments.
-use Rattle.std.specs.Prelude.{◌≡◌, ◌≤◌, ℕ, List, [], ◌∷◌, ◌++◌, Contains, length, map, take, sum_by}
+use Rattle.std.specs.Prelude.{◌≡◌, ◌≤◌, ◌*◌, ℕ, List, [], ◌∷◌, ◌++◌, Contains, length, map, take, sum_by}
 use Rattle.od_document.specs.declared.doc.Doc.{Doc}
 use Rattle.od_document.specs.declared.sentence.Sentence.{Sentence}
 use Rattle.od_pattern.specs.declared.pattern.Field.{Field}
-use Rattle.od_index.specs.Sites.{sites, later, sentences_in}
+use Rattle.od_index.specs.Sites.{sites, later}
 use Rattle.od_index.specs.Terms.{Term, terms_of, sentence_terms}
 use Rattle.od_index.specs.Tables.{IsTableOf, table_of, IsNumber}
 use Rattle.od_index.specs.Sentences.{HasTerms}
-use Rattle.od_index.specs.Postings.{Posting, ArePostings, shifted, postings, edges_with, IsEdgePosting, edge_postings, AreLabels, labels_of, AreEdgePostings}
+use Rattle.od_index.specs.Postings.{Posting, ArePostings, shifted, postings, edges_with, IsEdgePosting, edge_postings, AreLabels, labels_in, AreEdgePostings}
 use Rattle.od_index.specs.Segments.{Stored, StandsFor, segment_of, Tiles, size, sites_after, merged}
 use Rattle.od_index.specs.Views.{Seen, sites_seen}
 
@@ -26,6 +26,10 @@ EachIsNumbered = (terms table : List Term) (field : Field) (text : List ℕ) →
 -- and no more than one
 abbrev pub OneNumber : Type 0
 OneNumber = (terms table : List Term) (field : Field) (text : List ℕ) (m n : ℕ) → IsTableOf terms table → IsNumber table field text m → IsNumber table field text n → m ≡ n
+
+-- a table has at most as many terms as there are
+abbrev pub TableIsShort : Type 0
+TableIsShort = (terms table : List Term) → IsTableOf terms table → length table ≤ length terms
 
 -- tables of some terms and of others, joined, are tabled as the terms are
 abbrev pub TablesJoin : Type 0
@@ -63,7 +67,7 @@ EdgePostingIsComputed = (label : List ℕ) (sentences : List Sentence) → IsEdg
 
 -- and so are the different labels
 abbrev pub LabelsAreComputed : Type 0
-LabelsAreComputed = (sentences : List Sentence) → AreLabels sentences (labels_of sentences)
+LabelsAreComputed = (sentences : List Sentence) → AreLabels sentences (labels_in sentences)
 
 -- sentences have one list of labels at most
 abbrev pub OneListOfLabels : Type 0
@@ -84,6 +88,12 @@ OneSegment = (docs : List Doc) (a b : Stored) → StandsFor docs a → StandsFor
 -- and one that is computed
 abbrev pub SegmentIsComputed : Type 0
 SegmentIsComputed = (docs : List Doc) → StandsFor docs (segment_of docs)
+
+-- a segment has at most as many documents and sentences as its documents have bytes, and at most 7 terms for each byte
+abbrev pub SegmentIsSmall : Type 0
+SegmentIsSmall =
+    (docs : List Doc) (s : Stored) → StandsFor docs s
+    → let bytes = sum_by (λ doc. doc.size) docs in (s.documents ≤ bytes) × (size s ≤ bytes) × (length s.table ≤ 7 * bytes)
 
 -- where segments tile documents, their sentences are those of the documents, each once and in order
 abbrev pub TilesHaveAll : Type 0

@@ -60,8 +60,8 @@ abbrev pub AreLabels : List Sentence → List (List ℕ) → Type 0
 AreLabels sentences labels = IsAscendingOf (slice_cmp nat_cmp) (edge_labels sentences) labels
 
 -- they are computed in the same way
-abbrev pub labels_of : List Sentence → List (List ℕ)
-labels_of sentences = ascending (slice_cmp nat_cmp) (edge_labels sentences)
+abbrev pub labels_in : List Sentence → List (List ℕ)
+labels_in sentences = ascending (slice_cmp nat_cmp) (edge_labels sentences)
 
 -- for each of the different labels, ascending, its posting list
 pub record AreEdgePostings (sentences : List Sentence) (lists : List (List ℕ × List Posting)) : Type 0 where

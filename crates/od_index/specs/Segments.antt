@@ -1,5 +1,5 @@
 -- Segments, which stand for documents, and lists of segments that tile documents.
-use Rattle.std.specs.Prelude.{◌≡◌, ℕ, ◌+◌, List, [], ◌∷◌, ◌++◌, length, map, take, drop, sum_by}
+use Rattle.std.specs.Prelude.{◌≡◌, ℕ, ◌+◌, List, [], ◌∷◌, ◌++◌, length, map, take, drop}
 use Rattle.od_document.specs.declared.doc.Doc.{Doc}
 use Rattle.od_index.specs.Sites.{Site, sites, later, sentences_in}
 use Rattle.od_index.specs.Terms.{Term, terms_of}

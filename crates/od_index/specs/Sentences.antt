@@ -1,5 +1,5 @@
 -- A sentence with the table that its texts are numbers of.
-use Rattle.std.specs.Prelude.{◌≡◌, ℕ, List, Contains, Option, Some, None, MatchOption, IsSomeAnd}
+use Rattle.std.specs.Prelude.{◌≡◌, ℕ, List, Contains, Option, None, MatchOption, IsSomeAnd}
 use Rattle.od_text.specs.Lists.{Each}
 use Rattle.od_document.specs.declared.sentence.Sentence.{Sentence}
 use Rattle.od_pattern.specs.declared.pattern.Field.{Field}

@@ -1,7 +1,7 @@
 //! The laws of tables, postings and segments, which hold of every document.
 //!
 //! A law is what a function here ensures; the function itself does nothing.
-ghost use Rattle.od_index.specs.Laws.{OneTable, TableIsComputed, EachIsNumbered, OneNumber, TablesJoin, TableServes, SitesJoin, PostingsJoin, EdgesJoin, PostingsAscend, EdgePostingsJoin, OneEdgePosting, EdgePostingIsComputed, OneListOfLabels, LabelsAreComputed, OneListOfEdges, OneSegment, SegmentIsComputed, TilesHaveAll, SizesSum, FirstAreSeen, TilesGrow, MergedStands, TilesMerge};
+ghost use Rattle.od_index.specs.Laws.{OneTable, TableIsComputed, EachIsNumbered, OneNumber, TableIsShort, TablesJoin, TableServes, SitesJoin, PostingsJoin, EdgesJoin, PostingsAscend, EdgePostingsJoin, OneEdgePosting, EdgePostingIsComputed, OneListOfLabels, LabelsAreComputed, OneListOfEdges, OneSegment, SegmentIsComputed, SegmentIsSmall, TilesHaveAll, SizesSum, FirstAreSeen, TilesGrow, MergedStands, TilesMerge};
 
 /// Some terms have exactly one table.
 pub fn table_is_unique()
@@ -15,8 +15,10 @@ pub fn terms_are_numbered()
     ensures one { OneNumber }
 {}
 
-/// The table of two tables is the table of the terms of both, and a table of sentences has the terms of each of them.
+/// A table is no longer than its terms. The table of two tables is the table of the terms of both, and a table of
+/// sentences has the terms of each of them.
 pub fn tables_join()
+    ensures short { TableIsShort }
     ensures join { TablesJoin }
     ensures serves { TableServes }
 {}
@@ -55,6 +57,11 @@ pub fn labels_are_unique()
 pub fn segment_is_unique()
     ensures one { OneSegment }
     ensures computed { SegmentIsComputed }
+{}
+
+/// A segment has at most as many documents and sentences as its documents have bytes, and at most 7 terms for each byte.
+pub fn segments_are_small()
+    ensures { SegmentIsSmall }
 {}
 
 /// Segments that tile documents have each of their sentences once, in order; what is seen of the segments are

@@ -6,5 +6,7 @@ pub mod Lying
 pub mod New
 pub mod Refusals
 pub mod Stands
+pub mod States
+pub mod Terms
 pub mod Walks
 pub mod Weights

@@ -4,3 +4,4 @@ pub mod Phases
 pub mod Round
 pub mod Sites
 pub mod Standing
+pub mod States

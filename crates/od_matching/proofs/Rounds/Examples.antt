@@ -9,7 +9,7 @@ use Rattle.od_matching.specs.Matching.Holds.{holds}
 use Rattle.od_extraction.specs.Mentions.{same_mention}
 use Rattle.od_matching.specs.Matching.Rules.{rule_mentions}
 use Rattle.od_matching.specs.Matching.Scan.{scan_from, scan_of}
-use Rattle.od_matching.specs.Rounds.Round.{round_over, round, rounds}
+use Rattle.od_matching.specs.Rounds.Round.{round_over, rounds}
 use Rattle.od_matching.specs.Rounds.Phases.{phase, greatest_first}
 use Rattle.od_document.specs.declared.token.Token.{Token}
 use Rattle.od_document.specs.declared.sentence.Sentence.{Sentence}

@@ -1,14 +1,13 @@
 -- A round over the sentences that are kept for each rule.
-use Rattle.std.proofs.Common.{◌≡◌, ℕ, List, [], ◌∷◌, ◌++◌, filter, flat_map, Bool, true, false, cond, refl, sym, ap, ap₂, ◌∙◌}
-use Rattle.std.specs.List.{enumerate_from}
+use Rattle.std.proofs.Common.{◌≡◌, ℕ, ◌+◌, ◌*◌, length, arith, List, [], ◌∷◌, ◌++◌, filter, flat_map, Bool, true, false, cond, refl, sym, ap, ap₂, ◌∙◌}
+use Rattle.std.specs.List.{enumerate_from, sum_by}
+use Rattle.std.proofs.lemmas.List.Sums.{sum_by-cons}
+use Rattle.od_index.proofs.Tiles.{first-seen}
 use Rattle.od_pattern.specs.declared.rule.Rule.{Rule}
-use Rattle.od_pattern.specs.declared.grammar.Grammar.{Grammar}
-use Rattle.od_extraction.specs.declared.mention.Mention.{Mention}
 use Rattle.od_extraction.specs.Mentions.{distinct}
 use Rattle.od_matching.specs.Matching.Rules.{Outcome, mentions, crowded}
-use Rattle.od_matching.specs.Rounds.Candidates.{Choice, KeepsAll, items_kept}
-use Rattle.od_matching.specs.Rounds.Laws.{NothingOutside, KeptIsRound, RuleAfterRule}
-use Rattle.od_matching.specs.Rounds.Round.{Item, items_of, outcome_at, items_at, items_over, walk_over, round_over}
+use Rattle.od_matching.specs.Rounds.Laws.{NothingOutside, KeptIsRound, AllAreOpened, SeenIsRound, RuleAfterRule}
+use Rattle.od_matching.specs.Rounds.Round.{items_of, outcome_at, items_at, items_over, walk_over, round_over}
 use Rattle.od_matching.specs.Rounds.Sites.{Site, runs_in, rules_in}
 
 -- an outcome that is not other than no mention gives no item
@@ -54,3 +53,25 @@ by-test {X = X} give test (x ∷ xs) = step (test x) (by-test give test xs)
 
 pub rule-after-rule : RuleAfterRule
 rule-after-rule ss g r old = by-test (λ (rule : ℕ × Rule). items_over ss old rule) (λ (rule : ℕ × Rule). runs_in r rule.1.priority) (enumerate_from 1 g.rules)
+
+-- ## Openings
+
+-- where every sentence is kept, all are there
+all-kept : {X : Type 0} (xs : List X) → filter (λ x. true) xs ≡ xs
+all-kept [] = refl
+all-kept (x ∷ xs) = ap (λ ys. x ∷ ys) (all-kept xs)
+
+as-many : (ss : List Site) (rules : List (ℕ × Rule)) → sum_by (λ (rule : ℕ × Rule). length (filter (λ (site : Site). true) ss)) rules ≡ length rules * length ss
+as-many ss [] = omega arith
+as-many ss (rule ∷ rules) =
+    let here : length (filter (λ (site : Site). true) ss) ≡ length ss = ap length (all-kept ss) in
+    let more : (length rules + 1) * length ss ≡ length rules * length ss + length ss = grind arith in
+    sum_by-cons (λ (rule : ℕ × Rule). length (filter (λ (site : Site). true) ss)) rule rules ∙ ap₂ (λ a b. a + b) here (as-many ss rules) ∙ (omega (arith, more))
+
+pub all-opened : AllAreOpened
+all-opened ss g r = as-many ss (rules_in r g)
+
+-- ## Views
+
+pub seen-is-round : SeenIsRound
+seen-is-round v docs g r old t = ap (λ ss. round_over ss g r old) (first-seen v docs t)

@@ -1,15 +1,12 @@
 -- Documents that are committed later.
-use Rattle.std.proofs.Common.{◌≡◌, ℕ, ◌+◌, ◌≤◌, List, [], ◌∷◌, ◌++◌, length, take, map, filter, flat_map, Bool, false, cond, ◌&&◌, ◌==◌, refl, sym, ap, ap₂, ◌∙◌, arith, ne_eqb}
+use Rattle.std.proofs.Common.{◌+◌, [], ◌∷◌, length, map, flat_map, cond, ◌&&◌, ◌==◌, refl, ap, ap₂, ◌∙◌, arith, ne_eqb}
 use Rattle.std.proofs.lemmas.List.{take-append-le}
 use Rattle.std.proofs.lemmas.List.Concat.{flat_map-append}
-use Rattle.od_text.specs.Lists.{Each}
-use Rattle.od_document.specs.declared.doc.Doc.{Doc}
 use Rattle.od_index.specs.Sites.{later}
 use Rattle.od_index.proofs.Numbered.{sites-join}
-use Rattle.od_extraction.specs.declared.mention.Mention.{Mention}
 use Rattle.od_matching.specs.Rounds.Laws.{ItemsJoin, LaterIsNew, LaterAddNothing}
-use Rattle.od_matching.specs.Rounds.Round.{in_sentence, items_at, items_over, round}
-use Rattle.od_matching.specs.Rounds.Sites.{Site, sites}
+use Rattle.od_matching.specs.Rounds.Round.{items_at, round}
+use Rattle.od_matching.specs.Rounds.Sites.{sites}
 
 pub items-join : ItemsJoin
 items-join docs more old rule =

@@ -1,8 +1,8 @@
 -- What a round found is new.
-use Rattle.std.proofs.Common.{◌≡◌, ℕ, List, [], ◌∷◌, ◌++◌, fold, Bool, true, false, ◌||◌, cond, refl, sym, ap, ap₂, ◌∙◌, subst, append_assoc, append-nil}
+use Rattle.std.proofs.Common.{◌≡◌, ℕ, List, [], ◌∷◌, ◌++◌, fold, Bool, true, false, ◌||◌, cond, refl, sym, ap, ◌∙◌, subst, append_assoc, append-nil}
 use Rattle.std.specs.Prelude.{nat_lt}
 use Rattle.od_text.specs.Lists.{Each, EachPoint, points_after}
-use Rattle.od_text.proofs.Lists.{EachPoint-snoc, Each-weaker, EachPoint-weaker, EachPoint-each}
+use Rattle.od_text.proofs.Lists.{EachPoint-snoc, EachPoint-weaker, EachPoint-each}
 use Rattle.od_pattern.specs.declared.grammar.Grammar.{Grammar}
 use Rattle.od_extraction.specs.declared.mention.Mention.{Mention}
 use Rattle.od_extraction.specs.declared.mention.RoundResult.{RoundResult}

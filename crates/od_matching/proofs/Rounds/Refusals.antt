@@ -1,8 +1,8 @@
 -- Rounds that are refused, worked out: which rule is named, and which of several refusals comes first.
-use Rattle.std.proofs.Common.{◌≡◌, ℕ, ◌+◌, ◌<◌, ◌≤◌, List, [], ◌∷◌, ◌++◌, length, map, fold, true, refl, ap, ap₂, ◌∙◌, lit<, lit≤, lt-ltb, arith}
+use Rattle.std.proofs.Common.{◌≡◌, ℕ, ◌<◌, List, [], ◌∷◌, ◌++◌, length, map, fold, true, refl, ap, ap₂, ◌∙◌, lit<, lit≤, lt-ltb, arith}
 use Rattle.std.proofs.lemmas.List.Elements.{All-from_recursion}
 use Rattle.std.specs.List.{AllByRecursion}
-use Rattle.std.specs.Prelude.{codes, Option, Some, None, replicate, nat_lt}
+use Rattle.std.specs.Prelude.{codes, Some, None, replicate, nat_lt}
 use denote.Hole.Carrier.{hidden}
 use Rattle.od_document.specs.Edges.{EndsWithin}
 use Rattle.od_document.specs.declared.token.Token.{Token}

@@ -1,5 +1,5 @@
 -- Where rounds stand, as one state.
-use Rattle.std.proofs.Common.{◌≡◌, ℕ, ◌+◌, ◌≤◌, List, [], ◌∷◌, ◌++◌, length, take, drop, Bool, true, false, cond, refl, sym, ap, ap₂, ◌∙◌, append_assoc, take-append-drop}
+use Rattle.std.proofs.Common.{◌≡◌, ℕ, ◌+◌, List, [], ◌∷◌, ◌++◌, length, take, drop, Bool, false, cond, refl, sym, ap, ap₂, ◌∙◌, append_assoc, take-append-drop}
 use Rattle.std.specs.Prelude.{nat_lt, ◌==◌}
 use Rattle.std.proofs.lemmas.List.{drop-append-le, length_push}
 use Rattle.std.proofs.lemmas.List.Sums.{fold-append}
@@ -8,7 +8,7 @@ use Rattle.od_extraction.specs.declared.mention.Mention.{Mention}
 use Rattle.od_extraction.specs.declared.mention.RoundResult.{RoundResult}
 use Rattle.od_extraction.specs.declared.mention.RoundResult.TheVariants.{Found, TooMany}
 use Rattle.od_extraction.specs.Joined.{joined}
-use Rattle.od_extraction.specs.Mentions.{is_among, with_new, distinct}
+use Rattle.od_extraction.specs.Mentions.{is_among, distinct}
 use Rattle.od_extraction.specs.Weight.{weight, most_weight}
 use Rattle.od_matching.specs.Rounds.Laws.{RoundIsNext, StandingGoesOn, PhaseIsAt, MetInState}
 use Rattle.od_matching.specs.Rounds.Phases.{phase, ends_empty}
