@@ -13,7 +13,7 @@ use Rattle.od_index.specs.Sites.{Site, sites}
 use Rattle.od_index.specs.Terms.{Term, terms_of}
 use Rattle.od_index.specs.Tables.{term_cmp, IsTableOf, table_of, IsNumber}
 use Rattle.od_index.specs.Postings.{postings, edges_with, edge_postings, labels_in}
-use Rattle.od_index.specs.Segments.{Stored, Tiles, segment_of, size, sites_after, merged}
+use Rattle.od_index.specs.Segments.{Stored, Tiles, segment_of, size, sites_after, merged, posted}
 use Rattle.od_index.specs.Views.{sites_seen}
 use Rattle.od_index.proofs.Placed.{ascending-is}
 use Rattle.od_index.proofs.Segments.{segment-is}
@@ -159,3 +159,7 @@ first_seen = refl
 -- merged they are the segment of the three documents
 merged_sites : (merged left right []).sites ≡ sites three_docs
 merged_sites = refl
+
+-- and the sentences of the second come behind those of the first in its posting lists
+merged_postings : posted (Word, codes "bark") (merged left right []) ≡ (0, 0) ∷ (1, 1) ∷ (3, 0) ∷ []
+merged_postings = refl

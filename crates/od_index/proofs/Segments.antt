@@ -1,13 +1,16 @@
 -- Segments and the documents that they stand for.
-use Rattle.std.proofs.Common.{◌≡◌, ℕ, ◌+◌, List, ◌++◌, map, refl, sym, ap, ap₂, ◌∙◌, subst, length-append}
-use Rattle.std.proofs.lemmas.List.{map-append}
+use Rattle.std.proofs.Common.{◌≡◌, length, ℕ, ◌+◌, List, ◌++◌, map, refl, sym, ap, ap₂, ◌∙◌, subst, length-append}
+use Rattle.std.proofs.lemmas.List.{length-map, map-append}
 use Rattle.std.proofs.lemmas.List.Concat.{flat_map-append}
 use Rattle.od_index.specs.Sites.{Site, sites, later, sentences_in}
 use Rattle.od_index.specs.Terms.{Term, terms_of, sentence_terms}
 use Rattle.od_index.specs.Tables.{IsTableOf, term_cmp}
-use Rattle.od_index.specs.Segments.{Stored}
-use Rattle.od_index.specs.Laws.{OneSegment, SegmentIsComputed, MergedStands}
-use Rattle.od_index.proofs.Numbered.{sites-join, sentences-later}
+use Rattle.od_index.specs.Segments.{Stored, StandsFor, segment_of, size, merged, posted, IsEdgePosted}
+use Rattle.od_document.specs.declared.sentence.Sentence.{Sentence}
+use Rattle.od_index.specs.Laws.{OneSegment, SegmentIsComputed, MergedStands, PostingsMerge, EdgePostingsMerge}
+use Rattle.od_index.specs.Postings.{Posting, shifted, postings, IsEdgePosting}
+use Rattle.od_index.proofs.Numbered.{sites-join, sentences-later, postings-join}
+use Rattle.od_index.proofs.Postings.{edge-postings-join}
 use Rattle.od_index.proofs.Placed.{ascending-is}
 use Rattle.od_index.proofs.Tables.{one-table, tables-join, terms-exact}
 
@@ -24,11 +27,13 @@ one-segment docs a b p q =
 pub segment-is : SegmentIsComputed
 segment-is docs = record { count = refl; sentences = refl; terms = ascending-is term_cmp terms-exact (terms_of (sentences_in (sites docs))) }
 
--- the terms of the sentences of two segments
+-- the sentences of two segments
+pub sentences-join : (a b : List Site) (n : ℕ) → sentences_in (a ++ map (later n) b) ≡ sentences_in a ++ sentences_in b
+sentences-join a b n = map-append (λ (site : Site). site.words) a (map (later n) b) ∙ ap (λ ss. sentences_in a ++ ss) (sentences-later n b)
+
+-- and their terms
 terms-join : (a b : List Site) (n : ℕ) → terms_of (sentences_in (a ++ map (later n) b)) ≡ terms_of (sentences_in a) ++ terms_of (sentences_in b)
-terms-join a b n =
-    ap terms_of (map-append (λ (site : Site). site.words) a (map (later n) b) ∙ ap (λ ss. sentences_in a ++ ss) (sentences-later n b))
-    ∙ flat_map-append sentence_terms (sentences_in a) (sentences_in b)
+terms-join a b n = ap terms_of (sentences-join a b n) ∙ flat_map-append sentence_terms (sentences_in a) (sentences_in b)
 
 pub merged-stands : MergedStands
 merged-stands docs more left right table p q t = record {
@@ -38,3 +43,19 @@ merged-stands docs more left right table p q t = record {
   terms = subst (λ (terms : List Term). IsTableOf terms table) (sym (terms-join left.sites right.sites left.documents))
       (tables-join (terms_of (sentences_in left.sites)) (terms_of (sentences_in right.sites)) left.table right.table table p.terms q.terms t);
 }
+
+-- ## Posting lists
+
+pub postings-merge : PostingsMerge
+postings-merge term left right table =
+    ap (postings term) (sentences-join left.sites right.sites left.documents)
+    ∙ postings-join term (sentences_in left.sites) (sentences_in right.sites)
+    ∙ ap (λ n. posted term left ++ map (shifted n) (posted term right)) (length-map left.sites (λ (site : Site). site.words))
+
+pub edge-postings-merge : EdgePostingsMerge
+edge-postings-merge label left right table a b p q =
+    let long : length (sentences_in left.sites) ≡ size left = length-map left.sites (λ (site : Site). site.words) in
+    let both : IsEdgePosting label (sentences_in left.sites ++ sentences_in right.sites) (a ++ map (shifted (length (sentences_in left.sites))) b) =
+    edge-postings-join label (sentences_in left.sites) (sentences_in right.sites) a b p q in
+    subst (λ (ss : List Sentence). IsEdgePosting label ss (a ++ map (shifted (size left)) b)) (sym (sentences-join left.sites right.sites left.documents))
+    (subst (λ (n : ℕ). IsEdgePosting label (sentences_in left.sites ++ sentences_in right.sites) (a ++ map (shifted n) b)) long both)

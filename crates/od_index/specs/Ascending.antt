@@ -20,7 +20,7 @@ IsExactOrder {X} cmp = IsTotalOrder cmp × ((x y : X) → cmp x y ≡ Equal → 
 abbrev pub pair_cmp : ℕ × ℕ → ℕ × ℕ → Ordering
 pair_cmp a b = ordering_then (nat_cmp a.0 b.0) (nat_cmp a.1 b.1)
 
--- an element before the first of ascending ones, in its place, or among those behind it, where `rest` has it
+-- an element below the first of some, alike, or above it; `rest` has it among those behind the first
 abbrev pub put_by : {X : Type 0} → Ordering → X → X → List X → List X → List X
 put_by Less x y ys rest = x ∷ y ∷ ys
 put_by Equal x y ys rest = y ∷ ys

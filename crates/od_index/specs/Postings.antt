@@ -1,10 +1,11 @@
 -- Where terms and edges stand in numbered sentences.
-use Rattle.std.specs.Prelude.{ℕ, ◌+◌, ◌*◌, List, map, filter, flat_map, bytes_eq}
+use Rattle.std.specs.Prelude.{ℕ, Bool, ◌+◌, ◌*◌, List, map, filter, flat_map, bytes_eq}
 use Rattle.std.specs.List.{enumerate_from, list_any}
 use Rattle.std.specs.Ordering.{nat_cmp}
 use Rattle.std.specs.Cmp.Lexicographic.{slice_cmp}
 use Rattle.std.specs.List.Sorted.{IsStrictlySortedBy}
 use Rattle.od_text.specs.Lists.{Each}
+use Rattle.od_document.specs.declared.token.Token.{Token}
 use Rattle.od_document.specs.declared.token.Edge.{Edge}
 use Rattle.od_document.specs.declared.sentence.Sentence.{Sentence}
 use Rattle.od_index.specs.Ascending.{IsAscendingOf, pair_cmp, ascending}
@@ -15,21 +16,30 @@ use Rattle.od_index.specs.Tables.{same_term}
 abbrev pub Posting : Type 0
 Posting = ℕ × ℕ
 
--- by sentences, and within one by what is said of it
-abbrev pub ArePostings : List Posting → Type 0
-ArePostings list = IsStrictlySortedBy pair_cmp list
+-- a posting list ascends: by sentences, and within one by what is said of it
+abbrev pub IsPostingList : List Posting → Type 0
+IsPostingList list = IsStrictlySortedBy pair_cmp list
 
 -- the same posting, with n sentences more before its own
 abbrev pub shifted : ℕ → Posting → Posting
 shifted n p = (n + p.0, p.1)
 
+-- the term stands at a numbered token of a sentence
+abbrev pub stands_at : Term → Sentence → ℕ × Token → Bool
+stands_at term s token = list_any (same_term term) (terms_at s token)
+
 -- the tokens of a numbered sentence at which the term stands
 abbrev pub postings_in : Term → ℕ × Sentence → List Posting
-postings_in term s = map (λ token. (s.0, token.0)) (filter (λ token. list_any (same_term term) (terms_at s.1 token)) (enumerate_from 0 s.1.tokens))
+postings_in term s =
+    map (λ token. (s.0, token.0)) (filter (stands_at term s.1) (enumerate_from 0 s.1.tokens))
 
 -- the posting list of a term: of all tokens of all sentences, in their order, those at which it stands
 abbrev pub postings : Term → List Sentence → List Posting
 postings term sentences = flat_map (postings_in term) (enumerate_from 0 sentences)
+
+-- the posting lists of the terms of a table, by their numbers
+abbrev pub posting_lists : List Term → List Sentence → List (List Posting)
+posting_lists table sentences = map (λ term. postings term sentences) table
 
 -- the ends of an edge as one number: 2^16 times the governor, and the dependent
 abbrev pub ends_number : Edge → ℕ
@@ -37,7 +47,8 @@ ends_number edge = edge.governor * 65536 + edge.dependent
 
 -- the edges of a numbered sentence that have the label, in the order of the text
 abbrev pub edges_in : List ℕ → ℕ × Sentence → List Posting
-edges_in label s = map (λ edge. (s.0, ends_number edge)) (filter (λ edge. bytes_eq edge.label label) s.1.edges)
+edges_in label s =
+    map (λ edge. (s.0, ends_number edge)) (filter (λ edge. bytes_eq edge.label label) s.1.edges)
 
 -- of all edges of all sentences those that have the label
 abbrev pub edges_with : List ℕ → List Sentence → List Posting

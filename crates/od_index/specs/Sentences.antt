@@ -21,4 +21,5 @@ IsIndexed s = HasTerms s.table (sentence_terms s.sentence)
 
 -- the number of a text in a field, and none where there is no text
 abbrev pub NumbersText : List Term → Field → Option (List ℕ) → Option ℕ → Type 0
-NumbersText table field text number = MatchOption text (number ≡ None) (λ t. IsSomeAnd number (IsNumber table field t))
+NumbersText table field text number =
+    MatchOption text (number ≡ None) (λ t. IsSomeAnd number (IsNumber table field t))

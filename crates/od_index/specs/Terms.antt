@@ -52,7 +52,7 @@ terms_of sentences = flat_map sentence_terms sentences
 abbrev pub doc_terms : Doc → List Term
 doc_terms doc = terms_of doc.sentences
 
--- the terms at a numbered token: its own, the labels of the edges that end there, and of those that begin there
+-- the terms at a numbered token: its own, and the labels of the edges that end and that begin there
 abbrev pub terms_at : Sentence → ℕ × Token → List Term
 terms_at s token =
     token_terms token.1

@@ -1,7 +1,7 @@
 //! The laws of tables, postings and segments, which hold of every document.
 //!
 //! A law is what a function here ensures; the function itself does nothing.
-ghost use Rattle.od_index.specs.Laws.{OneTable, TableIsComputed, EachIsNumbered, OneNumber, TableIsShort, TablesJoin, TableServes, SitesJoin, PostingsJoin, EdgesJoin, PostingsAscend, EdgePostingsJoin, OneEdgePosting, EdgePostingIsComputed, OneListOfLabels, LabelsAreComputed, OneListOfEdges, OneSegment, SegmentIsComputed, SegmentIsSmall, TilesHaveAll, SizesSum, FirstAreSeen, TilesGrow, MergedStands, TilesMerge};
+ghost use Rattle.od_index.specs.Laws.{OneTable, TableIsComputed, EachIsNumbered, OneNumber, TableIsShort, TablesJoin, TableServes, SitesJoin, PostingsJoin, EdgesJoin, PostingsAscend, EdgePostingsJoin, OneEdgePosting, EdgePostingIsComputed, OneListOfLabels, LabelsAreComputed, OneListOfEdges, OneSegment, SegmentIsComputed, SegmentIsSmall, TilesHaveAll, SizesSum, FirstAreSeen, TilesGrow, MergedStands, TilesMerge, PostingsMerge, EdgePostingsMerge};
 
 /// Some terms have exactly one table.
 pub fn table_is_unique()
@@ -15,8 +15,8 @@ pub fn terms_are_numbered()
     ensures one { OneNumber }
 {}
 
-/// A table is no longer than its terms. The table of two tables is the table of the terms of both, and a table of
-/// sentences has the terms of each of them.
+/// A table is no longer than its terms. The table of two tables is that of the terms of both,
+/// and a table of sentences has the terms of each of them.
 pub fn tables_join()
     ensures short { TableIsShort }
     ensures join { TablesJoin }
@@ -59,22 +59,28 @@ pub fn segment_is_unique()
     ensures computed { SegmentIsComputed }
 {}
 
-/// A segment has at most as many documents and sentences as its documents have bytes, and at most 7 terms for each byte.
+/// For each byte of its documents a segment has at most one document, one sentence and 7 terms.
 pub fn segments_are_small()
     ensures { SegmentIsSmall }
 {}
 
-/// Segments that tile documents have each of their sentences once, in order; what is seen of the segments are
-/// the sentences of the first documents.
+/// Segments that tile documents have each of their sentences once, in order;
+/// what is seen of the segments are the sentences of the first documents.
 pub fn tiles_have_all()
     ensures all { TilesHaveAll }
     ensures sizes { SizesSum }
     ensures seen { FirstAreSeen }
 {}
 
-/// A segment may be added behind the others, and neighbours may be merged: they tile the documents still.
+/// A segment may be added behind the others, and neighbours may be merged: they tile the documents.
 pub fn tiles_change()
     ensures grow { TilesGrow }
     ensures merged { MergedStands }
     ensures merge { TilesMerge }
+{}
+
+/// The posting lists of two segments merged: the second's sentences come behind the first's.
+pub fn postings_merge()
+    ensures terms { PostingsMerge }
+    ensures edges { EdgePostingsMerge }
 {}

@@ -10,7 +10,7 @@ pub fn candidates_suffice()
     ensures openings { AllAreOpened }
 {}
 
-/// A round over what is seen of segments that tile documents is the round over the first of these documents.
+/// Over what is seen of segments that tile documents a round is that over the first of these documents.
 pub fn seen_is_scanned()
     ensures { SeenIsRound }
 {}
@@ -25,7 +25,7 @@ pub fn rules_in_order()
     ensures { RuleAfterRule }
 {}
 
-/// Documents that are committed later come after the others, and leave a round over the first ones untouched.
+/// Documents that are committed later come after the others, and leave rounds over the first untouched.
 pub fn later_documents_add()
     ensures items { ItemsJoin }
     ensures none { LaterIsNew }
@@ -38,8 +38,8 @@ pub fn found_is_new()
     ensures new { FoundAreNew }
 {}
 
-/// The number of rounds, whether the last added nothing, and the mentions without repeats decide the next round and the
-/// phase. A round goes on from one such state to the next, mention by mention.
+/// The number of rounds, whether the last added nothing, and the mentions without repeats decide the
+/// next round and the phase. A round goes on from one such state to the next, mention by mention.
 pub fn standing_decides()
     ensures round { RoundIsNext }
     ensures next { StandingGoesOn }

@@ -13,11 +13,13 @@ Choice = ℕ × Rule → Site → Bool
 
 -- each sentence is kept on which the rule gives anything but no mention
 abbrev pub KeepsAll : List Mention → ℕ × Rule → (Site → Bool) → Type 0
-KeepsAll old rule keep = (site : Site) → (outcome_at old rule.1 site ≡ mentions [] → ⊥) → keep site ≡ true
+KeepsAll old rule keep =
+    (site : Site) → (outcome_at old rule.1 site ≡ mentions [] → ⊥) → keep site ≡ true
 
 -- what the rules of a round give on the sentences that are kept for them
 abbrev pub items_kept : Choice → List Site → Grammar → ℕ → List Mention → List Item
-items_kept keep ss g r old = flat_map (λ rule. items_over (filter (keep rule) ss) old rule) (rules_in r g)
+items_kept keep ss g r old =
+    flat_map (λ rule. items_over (filter (keep rule) ss) old rule) (rules_in r g)
 
 -- how many sentences are opened for that
 abbrev pub openings : Choice → List Site → Grammar → ℕ → ℕ

@@ -21,7 +21,7 @@ use Rattle.od_extraction.specs.Weight.{weight}
 use Rattle.od_matching.specs.Matching.Holds.{texts_at}
 use Rattle.od_matching.specs.Rounds.Candidates.{Choice, KeepsAll, items_kept, openings}
 use Rattle.od_matching.specs.Rounds.Phases.{phase}
-use Rattle.od_matching.specs.Rounds.Round.{one, in_sentence, items_over, items_in, items_by, walked, walk_over, round_over, round}
+use Rattle.od_matching.specs.Rounds.Round.{one, known_at, items_over, items_where_run, items_in, items_by, walked, walk_over, round_over, round}
 use Rattle.od_matching.specs.Rounds.Sites.{Site, sites, runs_in, rules_in}
 use Rattle.od_matching.specs.Rounds.Standing.{standing, with_round, next_round, phase_at, met_in}
 use Rattle.od_matching.specs.Rounds.States.{IsState, AreSentencesWith, sentences_with}
@@ -29,15 +29,17 @@ use Rattle.od_matching.specs.Rounds.States.{IsState, AreSentencesWith, sentences
 -- sentences on which a rule gives nothing may be left out
 abbrev pub NothingOutside : Type 0
 NothingOutside =
-    (old : List Mention) (rule : ℕ × Rule) (keep : Site → Bool) → KeepsAll old rule keep → (ss : List Site) → items_over (filter keep ss) old rule ≡ items_over ss old rule
+    (old : List Mention) (rule : ℕ × Rule) (keep : Site → Bool) → KeepsAll old rule keep
+    → (ss : List Site) → items_over (filter keep ss) old rule ≡ items_over ss old rule
 
 -- so a round over the sentences that are kept for each rule is the round over all
 abbrev pub KeptIsRound : Type 0
 KeptIsRound =
-    (keep : Choice) (ss : List Site) (g : Grammar) (r : ℕ) (old : List Mention) → ((rule : ℕ × Rule) → KeepsAll (distinct old) rule (keep rule))
+    (keep : Choice) (ss : List Site) (g : Grammar) (r : ℕ) (old : List Mention)
+    → ((rule : ℕ × Rule) → KeepsAll (distinct old) rule (keep rule))
     → walk_over (distinct old) (items_kept keep ss g r (distinct old)) ≡ round_over ss g r old
 
--- a round over what is seen of segments that tile documents is the round over the first of these documents
+-- over what is seen of segments that tile documents a round is that over the first of these documents
 abbrev pub SeenIsRound : Type 0
 SeenIsRound =
     (v : Seen) (docs : List Doc) (g : Grammar) (r : ℕ) (old : List Mention) → Tiles v.segments docs
@@ -45,62 +47,79 @@ SeenIsRound =
 
 -- a round that keeps every sentence opens each of them for each of its rules
 abbrev pub AllAreOpened : Type 0
-AllAreOpened = (ss : List Site) (g : Grammar) (r : ℕ) → openings (λ rule site. true) ss g r ≡ length (rules_in r g) * length ss
+AllAreOpened =
+    (ss : List Site) (g : Grammar) (r : ℕ)
+    → openings (λ rule site. true) ss g r ≡ length (rules_in r g) * length ss
 
--- a term of the index stands at a token exactly where its text is one that a constraint of its field looks at
+-- a term stands at a token exactly where its text is one that constraints of its field look at
 abbrev pub TermsAreTexts : Type 0
 TermsAreTexts =
-    (s : Sentence) (k : ℕ) (token : Token) (field : Field) (text : List ℕ) → slice_get s.tokens k ≡ Some token
-    → list_any (same_term (field, text)) (terms_at s (k, token)) ≡ list_any (bytes_eq text) (texts_at s k field)
+    (s : Sentence) (k : ℕ) (token : Token) (field : Field) (text : List ℕ)
+    → slice_get s.tokens k ≡ Some token
+    → list_any (same_term (field, text)) (terms_at s (k, token))
+    ≡ list_any (bytes_eq text) (texts_at s k field)
 
--- all rules of the file one after another, each where its priority holds the round, give what those of the round give
+-- all rules of the file, each where its priority holds the round, give what those of the round give
 abbrev pub RuleAfterRule : Type 0
 RuleAfterRule =
     (ss : List Site) (g : Grammar) (r : ℕ) (old : List Mention)
-    → flat_map (λ rule. if runs_in r rule.1.priority then items_over ss old rule else []) (enumerate_from 1 g.rules) ≡ items_in ss g r old
+    → flat_map (items_where_run r ss old) (enumerate_from 1 g.rules) ≡ items_in ss g r old
 
--- over documents and others after them a rule gives what it gives on the first, and then what it gives on the others
+-- over documents and others after them a rule gives what it gives on the first and then on the others
 abbrev pub ItemsJoin : Type 0
 ItemsJoin =
     (docs more : List Doc) (old : List Mention) (rule : ℕ × Rule)
-    → items_by (docs ++ more) old rule ≡ items_by docs old rule ++ items_over (map (later (length docs)) (sites more)) old rule
+    → items_by (docs ++ more) old rule
+    ≡ items_by docs old rule ++ items_over (map (later (length docs)) (sites more)) old rule
 
 -- a sentence behind n documents has no mention of those that lie in them
 abbrev pub LaterIsNew : Type 0
-LaterIsNew = (n : ℕ) (site : Site) (old : List Mention) → Each (λ m. m.document + 1 ≤ n) old → in_sentence (later n site).document (later n site).number old ≡ []
+LaterIsNew =
+    (n : ℕ) (site : Site) (old : List Mention) → Each (λ m. m.document + 1 ≤ n) old
+    → known_at old (later n site) ≡ []
 
 -- documents that are committed later leave a round over the first n untouched
 abbrev pub LaterAddNothing : Type 0
 LaterAddNothing =
-    (n : ℕ) (docs more : List Doc) (g : Grammar) (r : ℕ) (old : List Mention) → n ≤ length docs → round (take n (docs ++ more)) g r old ≡ round (take n docs) g r old
+    (n : ℕ) (docs more : List Doc) (g : Grammar) (r : ℕ) (old : List Mention) → n ≤ length docs
+    → round (take n (docs ++ more)) g r old ≡ round (take n docs) g r old
 
 -- the mentions that a round found are distinct
 abbrev pub FoundAreDistinct : Type 0
-FoundAreDistinct = (ss : List Site) (g : Grammar) (r : ℕ) (old new : List Mention) → round_over ss g r old ≡ Found new → distinct new ≡ new
+FoundAreDistinct =
+    (ss : List Site) (g : Grammar) (r : ℕ) (old new : List Mention)
+    → round_over ss g r old ≡ Found new → distinct new ≡ new
 
 -- and none of them was there
 abbrev pub FoundAreNew : Type 0
-FoundAreNew = (ss : List Site) (g : Grammar) (r : ℕ) (old new : List Mention) → round_over ss g r old ≡ Found new → Each (λ m. is_among old m ≡ false) new
+FoundAreNew =
+    (ss : List Site) (g : Grammar) (r : ℕ) (old new : List Mention)
+    → round_over ss g r old ≡ Found new → Each (λ m. is_among old m ≡ false) new
 
 -- the round after some lists asks only where these stand
 abbrev pub RoundIsNext : Type 0
 RoundIsNext =
-    (ss : List Site) (g : Grammar) (lists : List (List Mention)) → round_over ss g (length lists + 1) (joined lists) ≡ next_round ss g (standing lists)
+    (ss : List Site) (g : Grammar) (lists : List (List Mention))
+    → round_over ss g (length lists + 1) (joined lists) ≡ next_round ss g (standing lists)
 
 -- a round takes where they stand one list further
 abbrev pub StandingGoesOn : Type 0
 StandingGoesOn =
     (ss : List Site) (g : Grammar) (lists : List (List Mention)) (new : List Mention)
-    → next_round ss g (standing lists) ≡ Found new → standing (lists ++ new ∷ []) ≡ with_round (standing lists) new
+    → next_round ss g (standing lists) ≡ Found new
+    → standing (lists ++ new ∷ []) ≡ with_round (standing lists) new
 
 -- and so does their phase
 abbrev pub PhaseIsAt : Type 0
-PhaseIsAt = (first limit : ℕ) (lists : List (List Mention)) → phase first limit lists ≡ phase_at first limit (standing lists)
+PhaseIsAt =
+    (first limit : ℕ) (lists : List (List Mention))
+    → phase first limit lists ≡ phase_at first limit (standing lists)
 
 -- a mention that is met goes into the one state of those before and those found
 abbrev pub MetInState : Type 0
 MetInState =
-    (mark : ℕ) (state : List Mention) (m : Mention) → mark ≤ length state → walked (take mark state) (Found (drop mark state)) (one m) ≡ met_in mark state m
+    (mark : ℕ) (state : List Mention) (m : Mention) → mark ≤ length state
+    → walked (take mark state) (Found (drop mark state)) (one m) ≡ met_in mark state m
 
 -- a state with a mention more is a state
 abbrev pub StatesGrow : Type 0
@@ -109,12 +128,17 @@ StatesGrow = (state : List Mention) (m : Mention) → IsState state → IsState 
 -- and weighs one and its parts more, where the mention is new
 abbrev pub WeightGrows : Type 0
 WeightGrows =
-    (state : List Mention) (m : Mention) → weight (with_new state m) ≡ (if is_among state m then weight state else weight state + (1 + length m.parts))
+    (state : List Mention) (m : Mention)
+    → weight (with_new state m)
+    ≡ (if is_among state m then weight state else weight state + (1 + length m.parts))
 
 -- a label has one ascending list of the sentences with a mention of it at most
 abbrev pub OneListOfSentences : Type 0
-OneListOfSentences = (label : List ℕ) (ms : List Mention) (a b : List (ℕ × ℕ)) → AreSentencesWith label ms a → AreSentencesWith label ms b → a ≡ b
+OneListOfSentences =
+    (label : List ℕ) (ms : List Mention) (a b : List (ℕ × ℕ)) → AreSentencesWith label ms a
+    → AreSentencesWith label ms b → a ≡ b
 
 -- and one that is computed
 abbrev pub SentencesAreComputed : Type 0
-SentencesAreComputed = (label : List ℕ) (ms : List Mention) → AreSentencesWith label ms (sentences_with label ms)
+SentencesAreComputed =
+    (label : List ℕ) (ms : List Mention) → AreSentencesWith label ms (sentences_with label ms)

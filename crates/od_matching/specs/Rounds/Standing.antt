@@ -13,7 +13,7 @@ use Rattle.od_matching.specs.Rounds.Phases.{ends_empty}
 use Rattle.od_matching.specs.Rounds.Round.{round_over}
 use Rattle.od_matching.specs.Rounds.Sites.{Site}
 
--- the number of rounds, whether the last of them added nothing, and the mentions of all of them without repeats
+-- the number of rounds, whether the last added nothing, and the mentions of all without repeats
 pub record Standing : Type 0 where
   pub rounds : ℕ
   pub quiet : Bool
@@ -21,7 +21,11 @@ pub record Standing : Type 0 where
 
 -- after rounds that added these lists
 abbrev pub standing : List (List Mention) → Standing
-standing lists = record { rounds = length lists; quiet = ends_empty lists; known = distinct (joined lists) }
+standing lists = record {
+  rounds = length lists;
+  quiet = ends_empty lists;
+  known = distinct (joined lists);
+}
 
 -- after one round more, which added these mentions
 abbrev pub with_round : Standing → List Mention → Standing
@@ -33,10 +37,14 @@ next_round ss g s = round_over ss g (s.rounds + 1) s.known
 
 -- whether the rounds go on: the greatest first round of any rule, and the limit
 abbrev pub phase_at : ℕ → ℕ → Standing → Phase
-phase_at first limit s = if s.quiet && nat_le first s.rounds then Finished else (if s.rounds == limit then AtLimit else Going)
+phase_at first limit s =
+    if s.quiet && nat_le first s.rounds then Finished
+    else (if s.rounds == limit then AtLimit else Going)
 
--- one mention more in a state: those before the mark were there when the round began, and the round found the others
+-- one mention more in a state: those before the mark were there at the round's start, and the round
+-- found the others
 abbrev pub met_in : ℕ → List Mention → Mention → RoundResult
 met_in mark state m =
+    let more = state ++ m ∷ [] in
     if is_among state m then Found (drop mark state)
-    else (if nat_lt most_weight (weight (state ++ m ∷ [])) then TooMany (weight (state ++ m ∷ [])) else Found (drop mark (state ++ m ∷ [])))
+    else (if nat_lt most_weight (weight more) then TooMany (weight more) else Found (drop mark more))
