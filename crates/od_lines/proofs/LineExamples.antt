@@ -59,11 +59,11 @@ token word = record { word = word; norm = word; lemma = None; upos = None; tag =
 
 -- the sentence of the examples
 abbrev sentence : Sentence
-sentence = record { tokens = token (codes "The") ∷ token (codes "Dogs") ∷ token (codes "bark") ∷ []; edges = []; some = lit< tt; few = lit≤ tt; ends = All-nil _; distinct = refl }
+sentence = record { tokens = token (codes "The") ∷ token (codes "Dogs") ∷ token (codes "bark") ∷ []; edges = []; some = lit< tt; few = lit≤ tt; few_edges = lit≤ tt; ends = All-nil _; distinct = refl }
 
 -- its document
 abbrev document : Doc
-document = record { name = codes "d1"; size = 75; sentences = sentence ∷ []; some = lit< tt; small = lit≤ tt; weight = lit≤ tt }
+document = record { name = codes "d1"; size = 75; sentences = sentence ∷ []; some = lit< tt; small = lit≤ tt; parts = lit≤ tt }
 
 dogs_bark : mention_line (codes "s") (document ∷ []) (record { document = 0; sentence = 0; start = 1; end = 3; label = codes "Query"; rule = codes "query"; parts = [] })
     ≡ codes "{\"arguments\":[],\"document\":\"d1\",\"end\":3,\"label\":\"Query\",\"rule\":\"query\",\"sentence\":0,\"session\":\"s\",\"start\":1,\"text\":\"Dogs bark\"}\n"

@@ -10,7 +10,7 @@ use Rattle.od_document.specs.declared.sentence.Sentence.{Sentence}
 use Rattle.od_extraction.specs.declared.mention.Mention.{Mention}
 use Rattle.od_extraction.specs.declared.mention.RoundResult.{RoundResult}
 use Rattle.od_extraction.specs.declared.mention.RoundResult.TheVariants.{TooMany}
-use Rattle.od_document.specs.Weight.{weight_of}
+use Rattle.od_document.specs.Size.{size_in_parts}
 use Rattle.od_matching.specs.Rounds.Sites.{sites_of}
 use Rattle.od_matching.specs.Rounds.Round.{Item, one, walked, items_of, in_sentence}
 use Rattle.od_extraction.specs.Weight.{most_weight}
@@ -104,10 +104,10 @@ sentence_given words old document number sentence found says =
     ap (items_of 1 (record { document = document; number = number; words = sentence })) (says (in_sentence document number old))
 
 -- each sentence counts
-sentences_few : (ss : List Sentence) → length ss ≤ weight_of ss
+sentences_few : (ss : List Sentence) → length ss ≤ size_in_parts ss
 sentences_few [] = omega arith
 sentences_few (s ∷ ss) = omega (arith, sentences_few ss)
 
 -- a document has at most 2 ^ 20 sentences
 pub document_few : (doc : Doc) → length doc.sentences ≤ 2 ^ 20
-document_few doc = omega (arith, sentences_few doc.sentences, doc.small, doc.weight)
+document_few doc = omega (arith, sentences_few doc.sentences, doc.small, doc.parts)

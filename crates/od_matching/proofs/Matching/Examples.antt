@@ -23,7 +23,7 @@ word norm tag = record { word = norm; norm = norm; lemma = None; upos = None; ta
 
 -- a sentence of three tokens without edges
 abbrev three : Token → Token → Token → Sentence
-three a b c = record { tokens = a ∷ b ∷ c ∷ []; edges = []; some = lit< tt; few = lit≤ tt; ends = All-nil _; distinct = refl }
+three a b c = record { tokens = a ∷ b ∷ c ∷ []; edges = []; some = lit< tt; few = lit≤ tt; few_edges = lit≤ tt; ends = All-nil _; distinct = refl }
 
 abbrev tagged : List ℕ → List ℕ → List ℕ → Sentence
 tagged a b c = three (word (codes "w") a) (word (codes "w") b) (word (codes "w") c)

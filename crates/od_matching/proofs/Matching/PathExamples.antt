@@ -61,6 +61,7 @@ circle = record {
   edges = circle_edges;
   some = lit< tt;
   few = lit≤ tt;
+  few_edges = lit≤ tt;
   ends = within 3 circle_edges ((lit< tt, lit< tt), ((lit< tt, lit< tt), ((lit< tt, lit< tt), tt)));
   distinct = refl;
 }
@@ -115,6 +116,7 @@ deal = record {
   edges = deal_edges;
   some = lit< tt;
   few = lit≤ tt;
+  few_edges = lit≤ tt;
   ends = within 7 deal_edges ((lit< tt, lit< tt), ((lit< tt, lit< tt), ((lit< tt, lit< tt), ((lit< tt, lit< tt), ((lit< tt, lit< tt), ((lit< tt, lit< tt), tt))))));
   distinct = refl;
 }

@@ -3,7 +3,7 @@ use Rattle.std.proofs.Common.{◌≡◌, ℕ, ◌<◌, ◌≤◌, List, [], ◌�
 use Rattle.std.proofs.lemmas.List.Elements.{All-nil}
 use Rattle.std.specs.Prelude.{false, codes, Some, None}
 use denote.Hole.Carrier.{hidden}
-use Rattle.od_document.specs.Weight.{weight_of}
+use Rattle.od_document.specs.Size.{size_in_parts}
 use Rattle.od_matching.specs.Matching.Derives.{first}
 use Rattle.od_matching.specs.Matching.Holds.{holds}
 use Rattle.od_extraction.specs.Mentions.{same_mention}
@@ -37,11 +37,11 @@ word form norm lemma tag = record { word = form; norm = norm; lemma = Some lemma
 
 -- a sentence without edges
 abbrev sentence : (tokens : List Token) → 0 < length tokens → length tokens ≤ 2000 → Sentence
-sentence tokens some few = record { tokens = tokens; edges = []; some = some; few = few; ends = All-nil _; distinct = refl }
+sentence tokens some few = record { tokens = tokens; edges = []; some = some; few = few; few_edges = lit≤ tt; ends = All-nil _; distinct = refl }
 
 -- a document of one sentence
-abbrev document : List ℕ → (s : Sentence) → weight_of (s ∷ []) ≤ 100 → Doc
-document name s weight = record { name = name; size = 100; sentences = s ∷ []; some = lit< tt; small = lit≤ tt; weight = weight }
+abbrev document : List ℕ → (s : Sentence) → size_in_parts (s ∷ []) ≤ 100 → Doc
+document name s weight = record { name = name; size = 100; sentences = s ∷ []; some = lit< tt; small = lit≤ tt; parts = weight }
 
 abbrev is : Field → List ℕ → Surface
 is field text = surface.Token (constraint.Is field (Plain text))

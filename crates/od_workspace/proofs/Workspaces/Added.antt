@@ -9,7 +9,7 @@ use Rattle.std.proofs.lemmas.Iterator.Adapters.{position_from-zero}
 use Rattle.od_document.specs.declared.doc.Doc.{Doc}
 use Rattle.od_document.specs.declared.sentence.Sentence.{Sentence}
 use Rattle.od_session.specs.declared.object.SessionState.{SessionState}
-use Rattle.od_document.specs.Weight.{weight_of}
+use Rattle.od_document.specs.Size.{size_in_parts}
 use Rattle.od_session.specs.declared.object.TheConstants.{ALL_DOCUMENTS, ALL_BYTES, SESSIONS}
 use Rattle.od_session.specs.Parts.{size_of, is_full, is_named}
 use Rattle.od_model.proofs.Objects.Places.{Distinct-append}
@@ -67,7 +67,7 @@ module _ (docs : List Doc) (doc_names : List (List ℕ)) (bytes sentences : ℕ)
   -- ## One document more
 
   -- sentences are no more than they weigh
-  few-sentences : (ss : List Sentence) → length ss ≤ weight_of ss
+  few-sentences : (ss : List Sentence) → length ss ≤ size_in_parts ss
   few-sentences [] = omega arith
   few-sentences (s ∷ ss) = omega (arith, few-sentences ss)
 
@@ -83,7 +83,7 @@ module _ (docs : List Doc) (doc_names : List (List ℕ)) (bytes sentences : ℕ)
         sentences_are = ap (λ n. n + length doc.sentences) h.sentences_are ∙ sym (sum_by_push (λ (d : Doc). length d.sentences) docs doc);
         few_docs = omega (arith, length_push docs doc);
         few_bytes = let are = h.bytes_are in omega (arith, are, small);
-        few_sentences = let less = h.few_sentences in let light = doc.weight in omega (arith, less, light, few-sentences doc.sentences);
+        few_sentences = let less = h.few_sentences in let light = doc.parts in omega (arith, less, light, few-sentences doc.sentences);
         session_names_are = h.session_names_are;
         distinct = h.distinct;
         few_sessions = h.few_sessions;
