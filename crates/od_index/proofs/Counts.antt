@@ -4,7 +4,7 @@ use Rattle.std.specs.List.{enumerate_from, sum_by}
 use Rattle.std.proofs.lemmas.List.{map-append}
 use Rattle.std.proofs.lemmas.List.Concat.{flat_map-append}
 use Rattle.std.proofs.lemmas.List.Sums.{sum_by-cons}
-use Rattle.od_document.specs.Weight.{weight_of}
+use Rattle.od_document.specs.Size.{size_in_parts}
 use Rattle.od_document.specs.declared.token.Token.{Token}
 use Rattle.od_document.specs.declared.token.Edge.{Edge}
 use Rattle.od_document.specs.declared.sentence.Sentence.{Sentence}
@@ -37,13 +37,13 @@ edges-few : (es : List Edge) → length (flat_map edge_terms es) ≤ 2 * length 
 edges-few [] = omega arith
 edges-few (e ∷ es) = omega (arith, edges-few es)
 
--- at most 7 terms for each unit of their weight
-pub terms-few : (ss : List Sentence) → length (terms_of ss) ≤ 7 * weight_of ss
+-- at most 7 terms for each of their parts
+pub terms-few : (ss : List Sentence) → length (terms_of ss) ≤ 7 * size_in_parts ss
 terms-few [] = omega arith
 terms-few (s ∷ ss) =
     omega (arith, length-append (sentence_terms s) (terms_of ss), length-append (flat_map token_terms s.tokens) (flat_map edge_terms s.edges), tokens-few s.tokens, edges-few s.edges, terms-few ss)
 
-sentences-few : (ss : List Sentence) → length ss ≤ weight_of ss
+sentences-few : (ss : List Sentence) → length ss ≤ size_in_parts ss
 sentences-few [] = omega arith
 sentences-few (s ∷ ss) = omega (arith, sentences-few ss)
 
@@ -68,21 +68,21 @@ docs-terms k (d ∷ docs) =
     let rest = sentences_in (sites_from (k + 1) docs) in
     let parted : terms_of (sentences_in (sites_from k (d ∷ docs))) ≡ terms_of d.sentences ++ terms_of rest =
     ap terms_of (sentences-from k d docs) ∙ flat_map-append sentence_terms d.sentences rest in
-    let weight = d.weight in
-    omega (arith, ap length parted, length-append (terms_of d.sentences) (terms_of rest), terms-few d.sentences, weight, docs-terms (k + 1) docs, sum_by-cons (λ (doc : Doc). doc.size) d docs)
+    let parts = d.parts in
+    omega (arith, ap length parted, length-append (terms_of d.sentences) (terms_of rest), terms-few d.sentences, parts, docs-terms (k + 1) docs, sum_by-cons (λ (doc : Doc). doc.size) d docs)
 
 docs-sentences : (docs : List Doc) → sum_by (λ (doc : Doc). length doc.sentences) docs ≤ bytes docs
 docs-sentences [] = omega arith
 docs-sentences (d ∷ docs) =
-    let weight = d.weight in
-    omega (arith, sentences-few d.sentences, weight, docs-sentences docs, sum_by-cons (λ (doc : Doc). length doc.sentences) d docs, sum_by-cons (λ (doc : Doc). doc.size) d docs)
+    let parts = d.parts in
+    omega (arith, sentences-few d.sentences, parts, docs-sentences docs, sum_by-cons (λ (doc : Doc). length doc.sentences) d docs, sum_by-cons (λ (doc : Doc). doc.size) d docs)
 
 docs-few : (docs : List Doc) → length docs ≤ bytes docs
 docs-few [] = omega arith
 docs-few (d ∷ docs) =
-    let weight = d.weight in
+    let parts = d.parts in
     let some = d.some in
-    omega (arith, sentences-few d.sentences, weight, some, docs-few docs, sum_by-cons (λ (doc : Doc). doc.size) d docs)
+    omega (arith, sentences-few d.sentences, parts, some, docs-few docs, sum_by-cons (λ (doc : Doc). doc.size) d docs)
 
 -- ## Of segments
 

@@ -38,6 +38,7 @@ dogs_bark = record {
   edges = edge 0 1 (codes "nsubj") ∷ [];
   some = lit< tt;
   few = lit≤ tt;
+  few_edges = lit≤ tt;
   ends = within 2 (edge 0 1 (codes "nsubj") ∷ []) ((lit< tt, lit< tt), tt);
   distinct = refl;
 }
@@ -49,6 +50,7 @@ bark = record {
   edges = [];
   some = lit< tt;
   few = lit≤ tt;
+  few_edges = lit≤ tt;
   ends = within 1 [] tt;
   distinct = refl;
 }
@@ -63,6 +65,7 @@ letters = record {
   edges = letter_edges;
   some = lit< tt;
   few = lit≤ tt;
+  few_edges = lit≤ tt;
   ends = within 3 letter_edges ((lit< tt, lit< tt), ((lit< tt, lit< tt), tt));
   distinct = refl;
 }
@@ -118,13 +121,13 @@ labels_listed = refl
 -- ## Three documents in two segments
 
 abbrev first_doc : Doc
-first_doc = record { name = codes "d1"; size = 100; sentences = bark ∷ []; some = lit< tt; small = lit≤ tt; weight = lit≤ tt }
+first_doc = record { name = codes "d1"; size = 100; sentences = bark ∷ []; some = lit< tt; small = lit≤ tt; parts = lit≤ tt }
 
 abbrev second_doc : Doc
-second_doc = record { name = codes "d2"; size = 100; sentences = dogs_bark ∷ letters ∷ []; some = lit< tt; small = lit≤ tt; weight = lit≤ tt }
+second_doc = record { name = codes "d2"; size = 100; sentences = dogs_bark ∷ letters ∷ []; some = lit< tt; small = lit≤ tt; parts = lit≤ tt }
 
 abbrev third_doc : Doc
-third_doc = record { name = codes "d3"; size = 100; sentences = bark ∷ []; some = lit< tt; small = lit≤ tt; weight = lit≤ tt }
+third_doc = record { name = codes "d3"; size = 100; sentences = bark ∷ []; some = lit< tt; small = lit≤ tt; parts = lit≤ tt }
 
 abbrev three_docs : List Doc
 three_docs = first_doc ∷ second_doc ∷ third_doc ∷ []
