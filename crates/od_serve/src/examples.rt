@@ -1,6 +1,6 @@
 //! What the tests of several modules use.
 ghost use Rattle.std.specs.Prelude.{IfOk};
-ghost use Rattle.od_order.specs.Runnable.{IsQuery};
+ghost use Rattle.od_session.specs.Parts.{IsAccepted};
 
 use od_command::history::Command;
 use od_pattern::grammar::{GrammarKind, Head};
@@ -46,7 +46,7 @@ pub(crate) fn command(alloc: Global, ask: Ask) -> Result<Command, NoMemory> {
 
 /// The query `bark`, which a script names `q`.
 pub(crate) fn head(alloc: Global) -> Result<Head, NoMemory>
-    ensures { IfOk result IsQuery }
+    ensures { IfOk result IsAccepted }
 {
     Ok(Head {
         name: Text::from_str(alloc, "q")?,

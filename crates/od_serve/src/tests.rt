@@ -1,3 +1,3 @@
 //! Tests that need several crates.
-mod desk;
 mod lines;
+mod workspace;

@@ -1,8 +1,9 @@
 //! The top call over sources and sinks in memory, and scripts of several clients, which no input asks for yet.
 ghost use Rattle.std.specs.Prelude.{◌≤◌, length, IfOk};
-ghost use Rattle.od_order.specs.Runnable.{IsRunnable};
+ghost use Rattle.od_order.specs.declared.script.TheConstants.{CLIENT_ORDERS};
+ghost use Rattle.od_model.specs.Run.Clients.{IsRunnable};
 
-use super::{Ended, odinson, run_script};
+use super::{Ended, Run, accept, odinson, run_script};
 use crate::examples::{Ask, DOGS, command, head};
 use od_io::{MemSink, MemSource};
 use od_model::status::Status;
@@ -12,7 +13,7 @@ use od_text::text::{Bytes, NoMemory, Text};
 use std::alloc::{AllocError, Global};
 use std::test::Fail;
 
-type Run = Ended<MemSource, MemSink, MemSink>;
+type Ends = Ended<MemSource, MemSink, MemSink>;
 
 const EXAMPLE: &[u8] =
     b"query q dogs bark\nclient\ndoc d1 7\n1\tBig\tbig\tADJ\tJJ\t_\t2\tamod\t_\t_\n2\tDogs\tdog\tNOUN\tNNS\t_\t3\tnsubj\t_\t_\n3\tbark\tbark\tVERB\tVBP\t_\t0\troot\t_\t_\n\n1\tCats\tcat\tNOUN\tNNS\t_\t2\tnsubj\t_\t_\n2\tsleep\tsleep\tVERB\tVBP\t_\t0\troot\t_\t_\n\nopen s q 5\nrun s\nprint s\n";
@@ -62,7 +63,7 @@ fn serving(alloc: Global, input: &'static [u8]) -> Result<Given, AllocError> {
     })
 }
 
-fn run(alloc: Global, given: &Given) -> Result<Run, NoMemory> {
+fn run(alloc: Global, given: &Given) -> Result<Ends, NoMemory> {
     let bytes = Bytes::from_slice(alloc, given.input)?;
     let mut failing = Vec::new(alloc);
     if given.fails && failing.push(0).is_err() {
@@ -165,8 +166,8 @@ enum Asked {
 }
 
 fn orders(alloc: Global, asks: &[Asked]) -> Result<List<Order>, NoMemory>
-    requires { length asks.now ≤ 10000 }
-    ensures { IfOk result (λ orders. length orders ≤ 10000) }
+    requires { length asks.now ≤ CLIENT_ORDERS }
+    ensures { IfOk result (λ orders. length orders ≤ CLIENT_ORDERS) }
 {
     let mut orders = List::new(alloc);
     for asked in asks {
@@ -210,10 +211,15 @@ const TWO_CLIENTS_LINES: &[u8] =
 #[test]
 fn a_second_client_goes_on_with_a_released_session(rt: HostRuntime) -> Result<(), Fail> {
     let alloc = rt.alloc();
-    let mut sink = MemSink::new(alloc, 10000)?;
-    let mut history = Vec::new(alloc);
-    let status = run_script(alloc, two_clients(alloc)?, &mut sink, &mut history);
-    assert_eq!(rt; status, Status::Refused);
+    let Ok(script) = accept(alloc, two_clients(alloc)?) else {
+        return Err(Fail::from(AllocError));
+    };
+    let Run {
+        status,
+        history,
+        sink,
+    } = run_script(alloc, script, MemSink::new(alloc, 10000)?);
+    assert!(rt; matches!(status, Status::Refused));
     assert!(rt; sink.written() == TWO_CLIENTS_LINES);
     assert_eq!(rt; history.len(), 9);
     Ok(())

@@ -3,7 +3,7 @@ use od_command::history::{Command, Refusal, Reply};
 use od_document::conllu::ConlluKind;
 use od_extraction::phase::Phase;
 use od_text::text::{Bytes, NoMemory, Text};
-use od_workspace::workspace::Store;
+use od_workspace::workspace::Workspace;
 use od_workspace::workspace::change::Answer;
 use std::alloc::{AllocError, Global};
 use std::process::Abort;
@@ -14,25 +14,25 @@ const BARK: &[u8] = b"1\tbark\t_\t_\t_\t_\t_\t_\t_\t_\n\n";
 
 /// The answer to a command of a script that names one grammar, after its change was made.
 fn asked(
-    store: &mut Store,
+    workspace: &mut Workspace,
     alloc: Global,
     caller: u32,
     command: Command,
 ) -> Result<Reply, NoMemory> {
     let heads = [head(alloc)?];
-    let Answer { reply, change } = store.answer(alloc, &heads, caller, &command)?;
-    store.change(alloc, change)?;
+    let Answer { reply, change } = workspace.answer(alloc, &heads, caller, &command)?;
+    workspace.change(alloc, change)?;
     Ok(reply)
 }
 
 /// The refusal of a command, if it is refused.
 fn refusal(
-    store: &mut Store,
+    workspace: &mut Workspace,
     alloc: Global,
     caller: u32,
     command: Command,
 ) -> Result<Option<Refusal>, NoMemory> {
-    match asked(store, alloc, caller, command)? {
+    match asked(workspace, alloc, caller, command)? {
         Reply::Refused(refusal) => Ok(Some(refusal)),
         _ => Ok(None),
     }
@@ -44,9 +44,9 @@ fn refuses(
     alloc: Global,
     asks: &[(u32, Ask, Option<Refusal>)],
 ) -> Result<(), NoMemory> {
-    let mut store = Store::new(alloc);
+    let mut workspace = Workspace::new(alloc);
     for (caller, ask, wanted) in asks {
-        let refused = refusal(&mut store, alloc, *caller, command(alloc, *ask)?)?;
+        let refused = refusal(&mut workspace, alloc, *caller, command(alloc, *ask)?)?;
         assert_eq!(rt; refused, *wanted, "to {ask:?}");
     }
     Ok(())
@@ -56,10 +56,10 @@ fn refuses(
 #[test]
 fn a_session_is_opened_run_printed_released_and_resumed(rt: HostRuntime) -> Result<(), Fail> {
     let alloc = rt.alloc();
-    let mut store = Store::new(alloc);
-    let reply = asked(&mut store, alloc, 1, command(alloc, Ask::Add(DOGS))?)?;
+    let mut workspace = Workspace::new(alloc);
+    let reply = asked(&mut workspace, alloc, 1, command(alloc, Ask::Add(DOGS))?)?;
     assert!(rt; matches!(reply, Reply::Added { documents: 1 }));
-    let reply = asked(&mut store, alloc, 1, command(alloc, Ask::Open("q", 5))?)?;
+    let reply = asked(&mut workspace, alloc, 1, command(alloc, Ask::Open("q", 5))?)?;
     assert!(rt;
         matches!(
             reply,
@@ -69,7 +69,7 @@ fn a_session_is_opened_run_printed_released_and_resumed(rt: HostRuntime) -> Resu
             }
         )
     );
-    let reply = asked(&mut store, alloc, 1, command(alloc, Ask::Step)?)?;
+    let reply = asked(&mut workspace, alloc, 1, command(alloc, Ask::Step)?)?;
     assert!(rt;
         matches!(
             reply,
@@ -80,7 +80,7 @@ fn a_session_is_opened_run_printed_released_and_resumed(rt: HostRuntime) -> Resu
             }
         )
     );
-    let reply = asked(&mut store, alloc, 1, command(alloc, Ask::Step)?)?;
+    let reply = asked(&mut workspace, alloc, 1, command(alloc, Ask::Step)?)?;
     assert!(rt;
         matches!(
             reply,
@@ -91,7 +91,7 @@ fn a_session_is_opened_run_printed_released_and_resumed(rt: HostRuntime) -> Resu
             }
         )
     );
-    let reply = asked(&mut store, alloc, 1, command(alloc, Ask::Print)?)?;
+    let reply = asked(&mut workspace, alloc, 1, command(alloc, Ask::Print)?)?;
     assert!(rt;
         matches!(
             reply,
@@ -102,9 +102,9 @@ fn a_session_is_opened_run_printed_released_and_resumed(rt: HostRuntime) -> Resu
             }
         )
     );
-    let reply = asked(&mut store, alloc, 1, command(alloc, Ask::Release)?)?;
+    let reply = asked(&mut workspace, alloc, 1, command(alloc, Ask::Release)?)?;
     assert!(rt; matches!(reply, Reply::Released));
-    let reply = asked(&mut store, alloc, 2, command(alloc, Ask::Resume)?)?;
+    let reply = asked(&mut workspace, alloc, 2, command(alloc, Ask::Resume)?)?;
     assert!(rt;
         matches!(
             reply,
@@ -117,7 +117,7 @@ fn a_session_is_opened_run_printed_released_and_resumed(rt: HostRuntime) -> Resu
             }
         )
     );
-    let reply = asked(&mut store, alloc, 2, command(alloc, Ask::Settle)?)?;
+    let reply = asked(&mut workspace, alloc, 2, command(alloc, Ask::Settle)?)?;
     let Reply::Settled { sizes } = &reply else {
         panic!(rt; "sizes");
     };
@@ -125,122 +125,18 @@ fn a_session_is_opened_run_printed_released_and_resumed(rt: HostRuntime) -> Resu
     Ok(())
 }
 
-/// A document is bad before it is a duplicate.
-#[test]
-fn a_document_of_a_name_is_added_once(rt: HostRuntime) -> Result<(), Fail> {
-    let bad = Refusal::BadDoc {
-        line: 1,
-        kind: ConlluKind::Empty,
-    };
-    refuses(
-        &rt,
-        rt.alloc(),
-        &[
-            (1, Ask::Add(DOGS), None),
-            (2, Ask::Add(DOGS), Some(Refusal::Duplicate)),
-            (2, Ask::Add(b"# no sentence\n"), Some(bad)),
-        ],
-    )?;
-    Ok(())
-}
-
-/// An opening is refused for its grammar, then its limit, then its name.
-#[test]
-fn an_opening_is_refused_in_this_order(rt: HostRuntime) -> Result<(), Fail> {
-    refuses(
-        &rt,
-        rt.alloc(),
-        &[
-            (1, Ask::Open("q", 100), None),
-            (1, Ask::Open("r", 0), Some(Refusal::NoGrammar)),
-            (1, Ask::Open("q", 0), Some(Refusal::BadLimit { limit: 0 })),
-            (
-                1,
-                Ask::Open("q", 101),
-                Some(Refusal::BadLimit { limit: 101 }),
-            ),
-            (1, Ask::Open("q", 1), Some(Refusal::Taken)),
-        ],
-    )?;
-    Ok(())
-}
-
-/// A session is its holder's until it is released, and then the one's who resumes it.
-#[test]
-fn a_session_has_one_holder(rt: HostRuntime) -> Result<(), Fail> {
-    let first = Some(Refusal::Busy { owner: 1 });
-    let second = Some(Refusal::Busy { owner: 2 });
-    let free = Some(Refusal::NotHeld);
-    refuses(
-        &rt,
-        rt.alloc(),
-        &[
-            (2, Ask::Step, Some(Refusal::NoSession)),
-            (1, Ask::Open("q", 1), None),
-            (2, Ask::Step, first),
-            (2, Ask::Print, first),
-            (2, Ask::Release, first),
-            (2, Ask::Resume, first),
-            (1, Ask::Release, None),
-            (2, Ask::Step, free),
-            (2, Ask::Print, free),
-            (2, Ask::Release, free),
-            (2, Ask::Resume, None),
-            (2, Ask::Resume, second),
-        ],
-    )?;
-    Ok(())
-}
-
-/// No step follows a round that finished the session, nor the last one that its limit allows.
-#[test]
-fn a_session_that_ended_is_not_stepped(rt: HostRuntime) -> Result<(), Fail> {
-    refuses(
-        &rt,
-        rt.alloc(),
-        &[
-            (1, Ask::Open("q", 5), None),
-            (1, Ask::Step, None),
-            (1, Ask::Step, Some(Refusal::Finished { round: 1 })),
-        ],
-    )?;
-    refuses(
-        &rt,
-        rt.alloc(),
-        &[
-            (1, Ask::Add(DOGS), None),
-            (1, Ask::Open("q", 1), None),
-            (1, Ask::Step, None),
-            (1, Ask::Step, Some(Refusal::AtLimit { round: 1 })),
-        ],
-    )?;
-    Ok(())
-}
-
-/// A session is resumed only where the script names its grammar.
-#[test]
-fn a_session_is_resumed_with_its_grammar(rt: HostRuntime) -> Result<(), Fail> {
-    let alloc = rt.alloc();
-    let mut store = Store::new(alloc);
-    asked(&mut store, alloc, 1, command(alloc, Ask::Open("q", 1))?)?;
-    asked(&mut store, alloc, 1, command(alloc, Ask::Release)?)?;
-    let answer = store.answer(alloc, &[], 1, &command(alloc, Ask::Resume)?)?;
-    assert!(rt; matches!(answer.reply, Reply::Refused(Refusal::NoGrammar)));
-    Ok(())
-}
-
 /// Of 129 sessions the last has no room.
 #[test]
 fn there_is_room_for_128_sessions(rt: HostRuntime) -> Result<(), Fail> {
     let alloc = rt.alloc();
-    let mut store = Store::new(alloc);
+    let mut workspace = Workspace::new(alloc);
     for number in 0..129 {
         let opening = Command::OpenSession {
             name: Text::from_string(format!(in alloc; "s{number}")?),
             grammar: Text::from_str(alloc, "q")?,
             limit: 1,
         };
-        let refused = refusal(&mut store, alloc, 1, opening)?;
+        let refused = refusal(&mut workspace, alloc, 1, opening)?;
         let full = (number == 128).then_some(Refusal::NoRoom { count: 128 });
         assert_eq!(rt; refused, full);
     }
@@ -259,9 +155,9 @@ fn numbered(alloc: Global, number: u32, body: &[u8]) -> Result<Command, AllocErr
 #[test]
 fn there_is_room_for_100000_documents(rt: HostRuntime) -> Result<(), Fail> {
     let alloc = rt.alloc();
-    let mut store = Store::new(alloc);
+    let mut workspace = Workspace::new(alloc);
     for number in 0..100001 {
-        let refused = refusal(&mut store, alloc, 1, numbered(alloc, number, BARK)?)?;
+        let refused = refusal(&mut workspace, alloc, 1, numbered(alloc, number, BARK)?)?;
         let full = (number == 100000).then_some(Refusal::Full {
             documents: 100000,
             bytes: 2400000,
@@ -275,15 +171,15 @@ fn there_is_room_for_100000_documents(rt: HostRuntime) -> Result<(), Fail> {
 #[test]
 fn there_is_room_for_128_mebibytes(rt: HostRuntime) -> Result<(), Fail> {
     let alloc = rt.alloc();
-    let mut store = Store::new(alloc);
+    let mut workspace = Workspace::new(alloc);
     let mut large = vec![in alloc; b'#'; 1048576 - 25]?;
     large.push(b'\n')?;
     large.extend_from_slice(BARK)?;
     for number in 0..128 {
-        let refused = refusal(&mut store, alloc, 1, numbered(alloc, number, &large)?)?;
+        let refused = refusal(&mut workspace, alloc, 1, numbered(alloc, number, &large)?)?;
         assert_eq!(rt; refused, None);
     }
-    let refused = refusal(&mut store, alloc, 1, numbered(alloc, 128, BARK)?)?;
+    let refused = refusal(&mut workspace, alloc, 1, numbered(alloc, 128, BARK)?)?;
     let full = Refusal::Full {
         documents: 128,
         bytes: 134217728,
@@ -308,14 +204,14 @@ fn barks(alloc: Global, name: &str, sentences: u32) -> Result<Command, AllocErro
 #[test]
 fn a_session_takes_a_weight_of_100000(rt: HostRuntime) -> Result<(), Fail> {
     let alloc = rt.alloc();
-    let mut store = Store::new(alloc);
+    let mut workspace = Workspace::new(alloc);
     for (name, sentences) in [("a", 40000), ("b", 40000), ("c", 20001)] {
-        asked(&mut store, alloc, 1, barks(alloc, name, sentences)?)?;
+        asked(&mut workspace, alloc, 1, barks(alloc, name, sentences)?)?;
     }
-    asked(&mut store, alloc, 1, command(alloc, Ask::Open("q", 5))?)?;
-    let refused = refusal(&mut store, alloc, 1, command(alloc, Ask::Step)?)?;
+    asked(&mut workspace, alloc, 1, command(alloc, Ask::Open("q", 5))?)?;
+    let refused = refusal(&mut workspace, alloc, 1, command(alloc, Ask::Step)?)?;
     assert_eq!(rt; refused, Some(Refusal::TooMany { weight: 100001 }));
-    let reply = asked(&mut store, alloc, 1, command(alloc, Ask::Print)?)?;
+    let reply = asked(&mut workspace, alloc, 1, command(alloc, Ask::Print)?)?;
     assert!(rt;
         matches!(
             reply,
