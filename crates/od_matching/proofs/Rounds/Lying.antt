@@ -10,7 +10,7 @@ use Rattle.od_extraction.specs.declared.mention.RoundResult.{RoundResult}
 use Rattle.od_extraction.specs.declared.mention.RoundResult.TheVariants.{Found, Crowded, TooMany}
 use Rattle.od_text.specs.Lists.{Each}
 use Rattle.od_extraction.specs.Mentions.{is_among, distinct}
-use Rattle.od_matching.specs.Matching.Rules.{Outcome, mentions, crowded, rule_mentions}
+use Rattle.od_matching.specs.Matching.Rules.{RuleOutcome, mentions, crowded, rule_mentions}
 use Rattle.od_extraction.specs.Spans.{LiesIn}
 use Rattle.od_extraction.specs.Weight.{weight, most_weight}
 use Rattle.od_matching.specs.Rounds.Sites.{Site, sites_of, sites, rules_in}
@@ -49,7 +49,7 @@ module _ (docs : List Doc) where
     lies = h.lies;
   }
 
-  found-at : (rule : ℕ) (site : Site) → IsSite docs site → (found : Outcome) → ((ms : List Mention) → found ≡ mentions ms → Each (LiesAt site.document site.number (length site.words.tokens)) ms) → Each ItemLies (items_of rule site found)
+  found-at : (rule : ℕ) (site : Site) → IsSite docs site → (found : RuleOutcome) → ((ms : List Mention) → found ≡ mentions ms → Each (LiesAt site.document site.number (length site.words.tokens)) ms) → Each ItemLies (items_of rule site found)
   found-at rule site is (mentions ms) h =
       Each-map ItemLies one ms (Each-weaker (LiesAt site.document site.number (length site.words.tokens)) (LiesIn docs) (stands site is) ms (h ms refl))
   found-at rule site is (crowded count) h = (tt, tt)

@@ -1,6 +1,6 @@
 -- How a surface pattern goes from a place to a place of a sentence: as a relation, and the preferred way as a function.
 use Rattle.std.specs.Prelude.{ℕ, zero, suc, ◌-◌, ◌≤◌, Bool, true, false, not, List, Option, Some, None, if◌then◌else◌, nat_lt, nat_le, ◌==◌, ◌&&◌}
-use Rattle.od_matching.specs.Matching.Choice.{Relation, Stays, One, Test, Jump, Never, Then, Choose, Or, Named, Times, Further, Endless}
+use Rattle.od_matching.specs.Matching.Choice.{Relation, Stays, OneToken, Test, Jump, Never, Then, Choose, Either, Named, Times, Further, Endless}
 use Rattle.od_matching.specs.Matching.First.{Trial, first_one, first_test, first_jump, first_never, first_then, first_or, first_named, first_times, first_further, first_endless}
 use Rattle.od_pattern.specs.declared.pattern.Constraint.{Constraint}
 use Rattle.od_pattern.specs.declared.pattern.Surface.{Surface, Row_of-Surface, end_of-Surface, more_of-Surface}
@@ -43,7 +43,7 @@ module _ (w : World) where
   unfoldable mutual
     -- the pattern goes from place i to place j with the captures c by the choices t
     pub derives : Surface → Relation
-    derives (Token c) = One (fits_token w c)
+    derives (Token c) = OneToken (fits_token w c)
     derives (Label name) = Jump w.length (w.is_span name)
     derives (Look ahead positive c) = Test (looks w c ahead positive)
     derives First = Test (λ i. i == 0)
@@ -61,7 +61,7 @@ module _ (w : World) where
     -- one of the parts, by its number; k is the number of the first
     pub one_of : ℕ → {m : _} → Row_of-Surface m → Relation
     one_of k end_of-Surface = Never
-    one_of k (more_of-Surface p rest) = Or (Choose k (derives p)) (one_of (suc k) rest)
+    one_of k (more_of-Surface p rest) = Either (Choose k (derives p)) (one_of (suc k) rest)
 
   unfoldable mutual
     -- the preferred way through the pattern

@@ -8,7 +8,7 @@ use Rattle.od_extraction.specs.declared.mention.RoundResult.{RoundResult}
 use Rattle.od_extraction.specs.declared.mention.RoundResult.TheVariants.{Found, Crowded, TooMany}
 use Rattle.od_extraction.specs.Joined.{joined}
 use Rattle.od_extraction.specs.Mentions.{is_among, distinct}
-use Rattle.od_matching.specs.Matching.Rules.{Outcome, mentions, crowded, rule_mentions}
+use Rattle.od_matching.specs.Matching.Rules.{RuleOutcome, mentions, crowded, rule_mentions}
 use Rattle.od_extraction.specs.Weight.{weight, most_weight}
 use Rattle.od_matching.specs.Rounds.Sites.{Site, sites, rules_in}
 
@@ -22,7 +22,7 @@ abbrev pub in_sentence : ℕ → ℕ → List Mention → List Mention
 in_sentence document number old = filter (λ m. m.document == document && m.sentence == number) old
 
 -- what a rule of this number gives on a sentence
-abbrev pub items_of : ℕ → Site → Outcome → List Item
+abbrev pub items_of : ℕ → Site → RuleOutcome → List Item
 items_of rule site (mentions ms) = map one ms
 items_of rule site (crowded count) = crowd rule site.document site.number count ∷ []
 
