@@ -12,6 +12,5 @@ pub mod Scans
 pub mod Spread
 pub mod Steps
 pub mod Tests
-pub mod TextExamples
 pub mod Unambiguous
 pub mod Words

@@ -3,11 +3,9 @@ pub mod Choice
 pub mod Derives
 pub mod Events
 pub mod First
-pub mod Holds
 pub mod Hops
 pub mod Laws
 pub mod Reach
 pub mod Rules
 pub mod Scan
-pub mod Texts
 pub mod Words

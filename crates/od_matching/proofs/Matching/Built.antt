@@ -3,7 +3,7 @@ use Rattle.std.proofs.Common.{◌≡◌, ℕ, suc, false, List, [], ◌∷◌, r
 use Rattle.std.specs.Prelude.{not, ◌&&◌, ◌||◌, Option, length}
 use mathlib.Core.Former.{Count}
 use denote.Hole.Carrier.{hidden}
-use Rattle.od_matching.specs.Matching.Holds.{holds}
+use Rattle.od_asked.specs.Holds.{holds}
 use Rattle.od_matching.specs.Matching.Choice.{Relation, Stays, Never, Then, Choose, Either, Named}
 use Rattle.od_matching.specs.Matching.First.{Trial, first_never, first_then, first_or, first_named}
 use Rattle.od_matching.specs.Matching.Derives.{World, derives, in_order, one_of, first, first_order, first_of, turns_from, first_turns}

@@ -4,7 +4,7 @@ use Rattle.std.proofs.lemmas.List.Elements.{All-nil}
 use Rattle.std.specs.Prelude.{Bool, true, false, codes, Some, None}
 use denote.Hole.Carrier.{hidden}
 use Rattle.od_matching.specs.Matching.Choice.{capture}
-use Rattle.od_matching.specs.Matching.Holds.{holds}
+use Rattle.od_asked.specs.Holds.{holds}
 use Rattle.od_matching.specs.Matching.Derives.{first}
 use Rattle.od_matching.specs.Matching.Scan.{match_of, scan_from, scan_of}
 use Rattle.od_document.specs.declared.token.Token.{Token}

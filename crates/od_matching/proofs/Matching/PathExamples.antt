@@ -6,7 +6,7 @@ use Rattle.std.specs.Prelude.{Bool, true, false, ◌==◌, ◌<◌, codes, Optio
 use denote.Hole.Carrier.{hidden}
 use Rattle.od_document.specs.Edges.{EndsWithin}
 use Rattle.od_matching.specs.Matching.Choice.{capture}
-use Rattle.od_matching.specs.Matching.Holds.{holds}
+use Rattle.od_asked.specs.Holds.{holds}
 use Rattle.od_matching.specs.Matching.Derives.{first}
 use Rattle.od_matching.specs.Matching.Reach.{reached}
 use Rattle.od_matching.specs.Matching.Scan.{match_of, scan_from, scan_of}

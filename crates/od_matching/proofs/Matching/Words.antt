@@ -7,7 +7,7 @@ use Rattle.std.proofs.Math.Seq.{drop-cons}
 use Rattle.std.proofs.Math.ListN.{drop_of_length-le, get_or}
 use Rattle.std.specs.Prelude.{Option, Some, None, if◌then◌else◌, ◌&&◌, ◌||◌, length, map, drop, bytes_eq, slice_get}
 use Rattle.std.specs.List.{list_any}
-use Rattle.od_matching.specs.Matching.Holds.{holds, texts_there}
+use Rattle.od_asked.specs.Holds.{holds, texts_there}
 use Rattle.od_matching.specs.Matching.First.{Ending, Continuation, Trial, accept}
 use Rattle.od_matching.specs.Matching.Derives.{World, fits_token, first}
 use Rattle.od_matching.specs.Matching.Scan.{scan_at, scan_of, world_in}

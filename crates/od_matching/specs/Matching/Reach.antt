@@ -1,8 +1,8 @@
 -- Where a path leads from a token: as a relation, and as a set that is computed.
 use Rattle.std.specs.Prelude.{◌≡◌, ℕ, zero, suc, ◌-◌, ◌≤◌, ◌⊎◌, Bool, true, false, ◌&&◌, ◌||◌, ◌==◌, nat_lt, nat_le, List, length, Option, Some, None, slice_get}
 use Rattle.std.specs.List.{list_any}
-use Rattle.od_matching.specs.Matching.Texts.{fits}
-use Rattle.od_matching.specs.Matching.Holds.{holds}
+use Rattle.od_asked.specs.Texts.{fits}
+use Rattle.od_asked.specs.Holds.{holds}
 use Rattle.od_document.specs.declared.token.Edge.{Edge}
 use Rattle.od_document.specs.declared.sentence.Sentence.{Sentence}
 use Rattle.od_pattern.specs.declared.pattern.Value.{Value}

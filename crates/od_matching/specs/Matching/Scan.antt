@@ -4,7 +4,7 @@ use Rattle.std.specs.List.{list_any}
 use Rattle.od_matching.specs.Matching.Choice.{Before}
 use Rattle.od_matching.specs.Matching.First.{Ending, accept}
 use Rattle.od_matching.specs.Matching.Derives.{World, derives, first}
-use Rattle.od_matching.specs.Matching.Holds.{holds}
+use Rattle.od_asked.specs.Holds.{holds}
 use Rattle.od_document.specs.declared.sentence.Sentence.{Sentence}
 use Rattle.od_extraction.specs.declared.mention.Labelled.{Labelled}
 use Rattle.od_extraction.specs.declared.mention.Match.{Match}
