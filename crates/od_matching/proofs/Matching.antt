@@ -1,4 +1,8 @@
+pub mod Apart
+pub mod Ascends
 pub mod Built
+pub mod Counting
+pub mod Depends
 pub mod Derived
 pub mod Distinct
 pub mod Enclosed
@@ -11,6 +15,7 @@ pub mod Rules
 pub mod Scans
 pub mod Spread
 pub mod Steps
+pub mod Takes
 pub mod Tests
 pub mod Unambiguous
 pub mod Words

@@ -1,5 +1,8 @@
+pub mod Ascending
 pub mod Candidates
 pub mod Choice
+pub mod Counts
+pub mod Dependence
 pub mod Derives
 pub mod Events
 pub mod First

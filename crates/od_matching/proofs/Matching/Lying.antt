@@ -2,10 +2,8 @@
 use Rattle.std.proofs.Common.{◌≡◌, ℕ, zero, suc, ◌+◌, ◌-◌, ◌<◌, ◌≤◌, Bool, true, false, List, [], ◌∷◌, ◌++◌, length, map, fold, Option, Some, None, refl, subst, arith, if◌then◌else◌}
 use Rattle.std.specs.List.{range_with_len}
 use Rattle.od_text.specs.Lists.{Each}
-use Rattle.od_matching.specs.Matching.Derives.{World}
-use Rattle.od_matching.specs.Matching.Laws.{IsInside}
 use Rattle.od_matching.specs.Matching.Reach.{Set, reached}
-use Rattle.od_matching.specs.Matching.Scan.{Scans, scan_of, world_in}
+use Rattle.od_matching.specs.Matching.Scan.{scan_of}
 use Rattle.od_matching.specs.Matching.Hops.{between, most_found, pair_of, led_to, next_list, lists_from, hop_lists, last_of, hop_count}
 use Rattle.od_matching.specs.Matching.Candidates.{span, spans, candidates_in, candidates_of, candidates_at, part_at, each_alone, options_of, options_with}
 use Rattle.od_matching.specs.Matching.Events.{products, mention_of, mentions_at, event_mentions, event_count}
@@ -13,9 +11,7 @@ use Rattle.od_extraction.specs.Mentions.{is_among, with_new, distinct}
 use Rattle.od_matching.specs.Matching.Rules.{mentions, outcome_of, labelled, mention_at, body_outcome, rule_mentions}
 use Rattle.od_extraction.specs.Spans.{PartLiesWithin, MatchLiesWithin, LiesWithin}
 use Rattle.od_text.proofs.Lists.{Each-append, Each-weaker, Each-map, Each-flat_map, Each-filter}
-use Rattle.od_matching.proofs.Matching.Derived.{within}
-use Rattle.od_matching.proofs.Matching.Enclosed.{encloses}
-use Rattle.od_matching.proofs.Matching.Scans.{scans_of}
+use Rattle.od_matching.proofs.Matching.Apart.{apart-lie, scan-apart}
 use Rattle.od_document.specs.declared.sentence.Sentence.{Sentence}
 use Rattle.od_extraction.specs.declared.mention.Labelled.{Labelled}
 use Rattle.od_extraction.specs.declared.mention.Mention.{Mention}
@@ -35,20 +31,9 @@ use Rattle.od_extraction.specs.declared.mention.Match.{Match}
 
 -- ## Matches
 
-matches-lie : (w : World) (p : Surface) (i : ℕ) (ms : List Match) → Scans w p i ms → Each (MatchLiesWithin w.length) ms
-matches-lie w p i [] s = tt
-matches-lie w p i (m ∷ ms) (next, rest) =
-    let begins : m.span.start < w.length = next.inside in
-    let from : m.span.start ≤ w.length = omega arith in
-    let goes = next.best.goes in
-    let ends = within w p m.span.start m.span.end m.captures next.best.choices from goes in
-    let inside = encloses w p m.span.start m.span.end m.captures next.best.choices from goes in
-    let weaker : (x : Part) → IsInside m.span.start m.span.end x → PartLiesWithin w.length x = λ x k. let a : x.end ≤ m.span.end = k.2 in let b : m.span.end ≤ w.length = ends.1 in (k.1, omega arith) in
-    (record { takes = next.takes; ends = ends.1; captures = Each-weaker (IsInside m.span.start m.span.end) (PartLiesWithin w.length) weaker m.captures inside }, matches-lie w p m.span.end ms rest)
-
 module _ (s : Sentence) (labels : List Labelled) where
   scan-lies : (p : Surface) → Each (MatchLiesWithin (length s.tokens)) (scan_of p s labels)
-  scan-lies p = matches-lie (world_in s labels) p 0 (scan_of p s labels) (scans_of p s labels)
+  scan-lies p = apart-lie (length s.tokens) 0 (scan_of p s labels) (scan-apart p s labels)
 
   -- ## Hops
 

@@ -43,6 +43,15 @@ none_of w p i h e j c t d =
     let g : preferred.IsFirst (derives w p) accept i None = subst (preferred.IsFirst (derives w p) accept i) e (firsts w p accept i h) in
     accept_none j (g j c t d)
 
+-- so where there is a derivation there is a best one
+pub best_exists : (w : World) (p : Surface) (i j : ℕ) (c : List Part) (t : List ℕ) → i ≤ w.length → derives w p i j c t
+    → (j' : ℕ) × (c' : List Part) × IsBest w p i j' c'
+best_exists w p i j c t h d = told (first w p accept i) refl
+  where
+    told : (o : Option Ending) → first w p accept i ≡ o → (j' : ℕ) × (c' : List Part) × IsBest w p i j' c'
+    told None e = absurd (none_of w p i h e j c t d)
+    told (Some o) e = (o.end, o.captures, best_of w p i o h e)
+
 -- one of two lists comes first, or they are the same
 before_total : (s t : List ℕ) → (Before s t → ⊥) → (Before t s → ⊥) → s ≡ t
 before_total [] [] h g = refl

@@ -1,10 +1,12 @@
 -- The laws of derivations, scans, paths and sameness.
-use Rattle.std.specs.Prelude.{◌≡◌, ◌↔◌, IsTrue, ℕ, ◌<◌, ◌≤◌, true, List, [], ◌++◌, length}
+use Rattle.std.specs.Prelude.{◌≡◌, ◌↔◌, IsTrue, ℕ, ◌<◌, ◌≤◌, true, false, List, [], ◌∷◌, ◌++◌, length}
 use Rattle.od_text.specs.Lists.{Each}
 use Rattle.od_matching.specs.Matching.Derives.{World, derives}
 use Rattle.od_matching.specs.Matching.Scan.{IsBest, Scans, world_in, scan_of}
 use Rattle.od_matching.specs.Matching.Reach.{Set, nodes, leads, reached}
 use Rattle.od_extraction.specs.Mentions.{same_mention}
+use Rattle.od_extraction.specs.Spans.{MatchLiesWithin}
+use Rattle.od_pattern.specs.Nullable.{nullable}
 use Rattle.od_extraction.specs.declared.mention.Mention.{Mention}
 use Rattle.od_pattern.specs.declared.path.Path.{Path}
 use Rattle.od_document.specs.declared.sentence.Sentence.{Sentence}
@@ -38,6 +40,31 @@ CapturesStayWithin = (w : World) (p : Surface) (i j : ℕ) (c : List Part) (t : 
 -- at a place there is at most one best derivation
 abbrev pub OneBest : Type 0
 OneBest = (w : World) (p : Surface) (i j j' : ℕ) (c c' : List Part) → IsBest w p i j c → IsBest w p i j' c' → (j ≡ j') × (c ≡ c')
+
+-- where there is a derivation there is a best one
+abbrev pub BestExists : Type 0
+BestExists =
+    (w : World) (p : Surface) (i j : ℕ) (c : List Part) (t : List ℕ) → i ≤ w.length → derives w p i j c t
+    → (j' : ℕ) × (c' : List Part) × IsBest w p i j' c'
+
+-- a derivation of a pattern that is not nullable takes a token
+abbrev pub TakesWhereNotNullable : Type 0
+TakesWhereNotNullable =
+    (w : World) (p : Surface) (i j : ℕ) (c : List Part) (t : List ℕ) → nullable p ≡ false → i ≤ w.length
+    → derives w p i j c t → i < j
+
+-- from a place on, each match lies within so many tokens, and begins at or behind the end of the one before
+abbrev pub AreApart : ℕ → ℕ → List Match → Type 0
+AreApart count i [] = Unit {0}
+AreApart count i (m ∷ ms) = (i ≤ m.span.start) × MatchLiesWithin count m × AreApart count m.span.end ms
+
+-- the matches of a sentence are in order and share no token
+abbrev pub ScanIsApart : Type 0
+ScanIsApart = (p : Surface) (s : Sentence) (labels : List Labelled) → AreApart (length s.tokens) 0 (scan_of p s labels)
+
+-- a sentence has no more matches than tokens
+abbrev pub ScanIsShort : Type 0
+ScanIsShort = (p : Surface) (s : Sentence) (labels : List Labelled) → length (scan_of p s labels) ≤ length s.tokens
 
 -- the list that is computed has the matches of the whole sentence
 abbrev pub ScanIsComputed : Type 0
