@@ -1,7 +1,7 @@
 -- Where there is no token no field has a text.
-use Rattle.std.proofs.Common.{◌≡◌, ℕ, ◌≤◌, Bool, false, List, ap}
+use Rattle.std.proofs.Common.{◌≡◌, ℕ, ◌≤◌, false, ap}
 use Rattle.std.proofs.lemmas.Option.{slice_get_past}
-use Rattle.std.specs.Prelude.{Option, None, length}
+use Rattle.std.specs.Prelude.{Option, length}
 use Rattle.std.specs.List.{list_any}
 use Rattle.od_asked.specs.Holds.{texts_there, has_text}
 use Rattle.od_asked.specs.Texts.{fits}

@@ -1,10 +1,10 @@
 -- What patterns ask that are built from their parts, and which labels they name.
-use Rattle.std.proofs.Common.{◌≡◌, ℕ, List, ◌∷◌, ◌++◌, refl, ◌∙◌, ap}
+use Rattle.std.proofs.Common.{◌≡◌, ℕ, List, ◌++◌, refl, ◌∙◌, ap}
 use Rattle.std.specs.Prelude.{Option}
 use Rattle.std.specs.List.{flat_map}
 use mathlib.Core.Former.{Count}
 use denote.Hole.Carrier.{hidden}
-use Rattle.od_asked.specs.Asked.{Asked, asked_surface, asked_surfaces, asked_path, asked_paths}
+use Rattle.od_asked.specs.Asked.{asked_surface, asked_surfaces, asked_path, asked_paths}
 use Rattle.od_asked.specs.Named.{named_surface, named_surfaces}
 use Rattle.od_asked.specs.Laws.{AsksInOrder}
 use Rattle.od_pattern.specs.declared.path.Path as path

@@ -12,7 +12,7 @@ use Rattle.regex_hir.specs.Find.{first_from, find_str}
 use Rattle.od_asked.specs.Texts.{regex_holds}
 
 -- what computes an expression without classes on a text
-pub computing : Unit {0}
+unfoldable pub computing : Unit {0}
 unfolding regex_holds regex_on_literals holds holds_between attempt rounds repeat first_from find_str byte_before has_bytes_at char_at is_boundary chars encode_utf8
 computing = tt
 

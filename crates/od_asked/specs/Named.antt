@@ -3,7 +3,6 @@ use Rattle.std.specs.Prelude.{ℕ, List, [], ◌∷◌, ◌++◌, Option, None, 
 use Rattle.std.specs.List.{flat_map}
 use Rattle.od_pattern.specs.declared.pattern.Surface.{Surface, Row_of-Surface, end_of-Surface, more_of-Surface}
 use Rattle.od_pattern.specs.declared.pattern.Surface.TheVariants.{Token, Label, Look, First, Last, Seq', Alt', Repeat', Capture'}
-use Rattle.od_pattern.specs.declared.rule.Argument.{Argument}
 use Rattle.od_pattern.specs.declared.rule.Body.{Body}
 use Rattle.od_pattern.specs.declared.rule.Body.TheVariants.{Basic, Event}
 use Rattle.od_pattern.specs.declared.rule.EventRule.{EventRule}

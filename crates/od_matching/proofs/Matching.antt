@@ -5,11 +5,13 @@ pub mod Counting
 pub mod Depends
 pub mod Derived
 pub mod Distinct
+pub mod EdgeExamples
 pub mod Enclosed
 pub mod Examples
 pub mod Lying
 pub mod PathExamples
 pub mod Preferred
+pub mod QuantifierExamples
 pub mod Reaches
 pub mod Rules
 pub mod Scans

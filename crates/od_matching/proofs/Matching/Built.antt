@@ -1,6 +1,6 @@
 -- What patterns mean that are built from their parts: the rows of a match become lists again.
 use Rattle.std.proofs.Common.{◌≡◌, ℕ, suc, false, List, [], ◌∷◌, refl, ◌∙◌, ap}
-use Rattle.std.specs.Prelude.{not, ◌&&◌, ◌||◌, Option, length}
+use Rattle.std.specs.Prelude.{not, ◌&&◌, ◌||◌, Option}
 use mathlib.Core.Former.{Count}
 use denote.Hole.Carrier.{hidden}
 use Rattle.od_asked.specs.Holds.{holds}

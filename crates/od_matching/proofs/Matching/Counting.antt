@@ -1,12 +1,12 @@
 -- The counts of hops and events tell how long the lists are.
-use Rattle.std.proofs.Common.{◌≡◌, ℕ, zero, suc, ◌+◌, ◌*◌, ◌<◌, ◌≤◌, ◌⊎◌, Bool, true, false, List, [], ◌∷◌, ◌++◌, length, map, refl, sym, ◌∙◌, ap, subst, arith, inl, inr}
-use Rattle.std.proofs.lemmas.Bool.{cases_Bool, cases_lt, ltb-true, lt-ltb, le-ltb}
+use Rattle.std.proofs.Common.{◌≡◌, ℕ, suc, ◌+◌, ◌*◌, ◌<◌, ◌≤◌, ◌⊎◌, Bool, true, false, List, [], ◌∷◌, ◌++◌, length, map, refl, sym, ◌∙◌, ap, subst, arith, inl, inr}
+use Rattle.std.proofs.lemmas.Bool.{cases_lt, lt-ltb, le-ltb}
 use Rattle.std.proofs.lemmas.List.{length-append, length-map}
 use Rattle.std.proofs.Math.Nat.{mul_assoc, mul-zero, mul-one, one-mul, zero-mul, suc-mul, le-mul_of_pos_right}
-use Rattle.std.specs.Prelude.{◌↔◌, Option, Some, None, nat_lt, if◌then◌else◌}
+use Rattle.std.specs.Prelude.{◌↔◌, Option, Some, None, if◌then◌else◌}
 use Rattle.std.specs.List.{flat_map}
 use Rattle.od_text.specs.Lists.{Each}
-use Rattle.od_matching.specs.Matching.Candidates.{each_alone, part_at, options_of, options_with, candidates_at}
+use Rattle.od_matching.specs.Matching.Candidates.{part_at, options_of, options_with, candidates_at}
 use Rattle.od_matching.specs.Matching.Counts.{AreFew}
 use Rattle.od_matching.specs.Matching.Events.{products, mention_of, mentions_with, mentions_at, event_mentions, factor, factors_with, Running, over, product, running, gives, counted_with, count_on, count_from, event_count}
 use Rattle.od_matching.specs.Matching.Hops.{later_of, last_of, first_over, count_where_any, hop_count}
@@ -14,7 +14,6 @@ use Rattle.od_matching.specs.Matching.Scan.{scan_of}
 use Rattle.od_document.specs.declared.sentence.Sentence.{Sentence}
 use Rattle.od_extraction.specs.declared.mention.Labelled.{Labelled}
 use Rattle.od_extraction.specs.declared.mention.Match.{Match}
-use Rattle.od_extraction.specs.declared.mention.Mention.{Mention}
 use Rattle.od_extraction.specs.declared.mention.Part.{Part}
 use Rattle.od_extraction.specs.declared.mention.Span.{Span}
 use Rattle.od_pattern.specs.declared.rule.Argument.{Argument}

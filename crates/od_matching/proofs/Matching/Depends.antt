@@ -1,5 +1,5 @@
 -- What is found depends on a sentence only through what is asked of it, and on a state only through the labels that are named.
-use Rattle.std.proofs.Common.{◌≡◌, ℕ, zero, suc, ◌+◌, Bool, true, false, List, [], ◌∷◌, ◌++◌, length, map, refl, sym, ◌∙◌, ap, arith, inl, inr, get_or}
+use Rattle.std.proofs.Common.{◌≡◌, ℕ, zero, suc, ◌+◌, Bool, true, false, List, [], ◌∷◌, length, map, refl, sym, ◌∙◌, ap, arith, inl, inr, get_or}
 use Rattle.std.proofs.Math.Path.{fun_ext}
 use Rattle.std.proofs.lemmas.Bool.{cases_lt, lt-ltb, le-ltb}
 use Rattle.std.proofs.lemmas.List.FromFn.{get_or-map-range_with_len}
@@ -11,15 +11,14 @@ use Rattle.od_asked.specs.Asked.{Asked, at_tokens, at_edges, asked_surface, aske
 use Rattle.od_asked.specs.Holds.{holds}
 use Rattle.od_asked.specs.Named.{named_surface, named_surfaces, named_label, named_hop, named_event, named_body, named_rule}
 use Rattle.od_asked.specs.Tables.{truths, columns_of}
-use Rattle.od_asked.specs.Texts.{fits}
 use Rattle.od_matching.specs.Matching.Candidates.{span, spans, candidates_in, candidates_of, candidates_at}
 use Rattle.od_matching.specs.Matching.Dependence.{ends_of, AnswerAlike, LinkAlike, SameSpansOf, LabelAlike}
 use Rattle.od_matching.specs.Matching.Derives.{World, fits_token, holds_before, looks, first_turns, first, first_order, first_of}
 use Rattle.od_matching.specs.Matching.Events.{mentions_with, mentions_at, event_mentions, counted_with, count_on, count_from, event_count}
-use Rattle.od_matching.specs.Matching.First.{Trial, accept, first_one, first_test, first_jump, first_never, first_then, first_or, first_named}
+use Rattle.od_matching.specs.Matching.First.{Trial, accept, first_one, first_test, first_jump, first_then, first_or, first_named}
 use Rattle.od_matching.specs.Matching.Hops.{between, meets, pair_of, most_found, led_to, next_list, lists_from, hop_lists}
-use Rattle.od_matching.specs.Matching.Reach.{Set, nodes, governor, dependent, fits_any, holds_there, cross, repeated, reached, reached_on, reached_by}
-use Rattle.od_matching.specs.Matching.Rules.{RuleOutcome, outcome_of, hop_outcome, labelled, body_outcome, rule_mentions}
+use Rattle.od_matching.specs.Matching.Reach.{Set, nodes, fits_any, repeated, reached, reached_on, reached_by}
+use Rattle.od_matching.specs.Matching.Rules.{outcome_of, hop_outcome, labelled, body_outcome, rule_mentions}
 use Rattle.od_matching.specs.Matching.Scan.{is_span_in, world_in, take_or_go, scan_from, scan_of}
 use Rattle.od_document.specs.declared.sentence.Sentence.{Sentence}
 use Rattle.od_document.specs.declared.token.Edge.{Edge}

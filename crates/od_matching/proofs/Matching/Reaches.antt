@@ -2,7 +2,7 @@
 use Rattle.std.proofs.Common.{◌≡◌, ℕ, zero, suc, ◌+◌, ◌-◌, ◌<◌, ◌≤◌, true, false, List, [], ◌∷◌, refl, sym, subst, inl, inr, arith}
 use Rattle.std.proofs.lemmas.Bool.{or_cases, and_parts, and_from, eqb-true, eq-eqb, leb-true, le-leb}
 use Rattle.std.proofs.lemmas.Option.{get_or_from_slice_get, slice_get_within}
-use Rattle.std.specs.Prelude.{◌↔◌, ◌&&◌, ◌==◌, nat_le, length, Option, Some, None, slice_get}
+use Rattle.std.specs.Prelude.{◌↔◌, ◌&&◌, ◌==◌, nat_le, Option, Some, None, slice_get}
 use Rattle.od_matching.specs.Matching.Reach.{nodes, Link, Set, Crosses, Turned, Repeated, fits_any, governor, dependent, holds_there, leads, leads_on, leads_by, cross, turned, spread, repeated, reached, reached_on, reached_by}
 use Rattle.od_matching.proofs.Matching.Tests.{or_left, or_right, any_there}
 use Rattle.od_matching.proofs.Matching.Spread.{Under, Sound, Complete, Keeps, under_after, turned_add, keeps_turned, sound-turned, sound-spread, spread_keeps, complete-turned, complete-spread, spread_closed, closed_turns, under_spreads}

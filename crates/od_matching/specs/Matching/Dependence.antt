@@ -1,5 +1,5 @@
 -- On what the findings of a pattern, a path and a rule depend: on what it asks, and on the labels that it names.
-use Rattle.std.specs.Prelude.{◌≡◌, ℕ, Bool, List, length, map}
+use Rattle.std.specs.Prelude.{◌≡◌, ℕ, List, length, map}
 use Rattle.od_text.specs.Lists.{Each}
 use Rattle.od_asked.specs.Asked.{Asked, asked_surface, asked_path, asked_rule}
 use Rattle.od_asked.specs.Named.{named_surface, named_rule}
