@@ -16,8 +16,10 @@ unfoldable pub expressions_in : Constraint → List (List ℕ)
 expressions_in Any = []
 expressions_in (Is field value) = expression_of value
 expressions_in (Not' v (more_of-Constraint c end_of-Constraint)) = expressions_in c
-expressions_in (And' v (more_of-Constraint c end_of-Constraint) w (more_of-Constraint d end_of-Constraint)) = expressions_in c ++ expressions_in d
-expressions_in (Or' v (more_of-Constraint c end_of-Constraint) w (more_of-Constraint d end_of-Constraint)) = expressions_in c ++ expressions_in d
+expressions_in (And' v (more_of-Constraint c end_of-Constraint) w (more_of-Constraint d end_of-Constraint)) =
+    expressions_in c ++ expressions_in d
+expressions_in (Or' v (more_of-Constraint c end_of-Constraint) w (more_of-Constraint d end_of-Constraint)) =
+    expressions_in c ++ expressions_in d
 
 -- those of one thing asked
 abbrev pub expressions_at : Asked → List (List ℕ)

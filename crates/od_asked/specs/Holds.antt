@@ -19,7 +19,8 @@ one_text (Some text) = text ∷ []
 abbrev pub labels_of : List Edge → List (List ℕ)
 labels_of edges = map (λ edge. edge.label) edges
 
--- the texts that a field has at token k of the sentence: the token's own text, or the labels of the edges that end or begin there
+-- the texts that a field has at token k of the sentence: the token's own text,
+-- or the labels of the edges that end or begin there
 abbrev pub texts_of : Sentence → ℕ → Token → Field → List (List ℕ)
 texts_of s k token Word = token.word ∷ []
 texts_of s k token Norm = token.norm ∷ []
@@ -50,5 +51,7 @@ module _ (s : Sentence) where
   holds Any k = true
   holds (Is field value) k = has_text s field value k
   holds (Not' v (more_of-Constraint c end_of-Constraint)) k = not (holds c k)
-  holds (And' v (more_of-Constraint c end_of-Constraint) w (more_of-Constraint d end_of-Constraint)) k = holds c k && holds d k
-  holds (Or' v (more_of-Constraint c end_of-Constraint) w (more_of-Constraint d end_of-Constraint)) k = holds c k || holds d k
+  holds (And' v (more_of-Constraint c end_of-Constraint) w (more_of-Constraint d end_of-Constraint)) k =
+      holds c k && holds d k
+  holds (Or' v (more_of-Constraint c end_of-Constraint) w (more_of-Constraint d end_of-Constraint)) k =
+      holds c k || holds d k

@@ -21,9 +21,11 @@ OwnTableFits = (s : Sentence) (asked : List Asked) → RowsFit (columns_of s ask
 abbrev pub OneTableSplits : Type 0
 OneTableSplits =
     (rows : List (List Bool)) (s : Sentence) (first : ℕ) (asked more : List Asked)
-    → RowsFit rows s first (asked ++ more) ↔ (RowsFit rows s first asked × RowsFit rows s (first + length asked) more)
+    → RowsFit rows s first (asked ++ more)
+    ↔ (RowsFit rows s first asked × RowsFit rows s (first + length asked) more)
 
--- surfaces and paths ask what their parts ask, one after another; a repeat and a capture ask what their body asks
+-- surfaces and paths ask what their parts ask, one after another;
+-- a repeat and a capture ask what their body asks
 pub record AsksInOrder : Type 0 where
   pub seq : (ps : List Surface) → asked_surface (surface.Seq ps) ≡ flat_map asked_surface ps
   pub alt : (ps : List Surface) → asked_surface (surface.Alt ps) ≡ flat_map asked_surface ps
@@ -31,9 +33,11 @@ pub record AsksInOrder : Type 0 where
   pub capture : (name : List ℕ) (p : Surface) → asked_surface (surface.Capture name p) ≡ asked_surface p
   pub path_seq : (ps : List Path) → asked_path (path.Seq ps) ≡ flat_map asked_path ps
   pub path_alt : (ps : List Path) → asked_path (path.Alt ps) ≡ flat_map asked_path ps
-  pub path_repeat : (p : Path) (least : ℕ) (most : Option ℕ) → asked_path (path.Repeat p least most) ≡ asked_path p
+  pub path_repeat :
+      (p : Path) (least : ℕ) (most : Option ℕ) → asked_path (path.Repeat p least most) ≡ asked_path p
 
 -- where there is no token no field has a text that fits
 abbrev pub NoFieldWithoutToken : Type 0
 NoFieldWithoutToken =
-    (s : Sentence) (field : Field) (value : Value) (k : ℕ) → length s.tokens ≤ k → has_text s field value k ≡ false
+    (s : Sentence) (field : Field) (value : Value) (k : ℕ)
+    → length s.tokens ≤ k → has_text s field value k ≡ false

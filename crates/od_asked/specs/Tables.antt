@@ -15,7 +15,9 @@ truths s (at_edges value) = map (λ edge. fits value edge.label) s.edges
 abbrev pub columns_of : Sentence → List Asked → List (List Bool)
 columns_of s asked = map (truths s) asked
 
--- from the row `first` on, the rows are the truths of what is asked, one after another; other rows may follow
+-- from the row `first` on, the rows are the truths of what is asked, one after another;
+-- other rows may stand before them and follow
 abbrev pub RowsFit : List (List Bool) → Sentence → ℕ → List Asked → Type 0
 RowsFit rows s first [] = Unit {0}
-RowsFit rows s first (a ∷ asked) = (slice_get rows first ≡ Some (truths s a)) × RowsFit rows s (suc first) asked
+RowsFit rows s first (a ∷ asked) =
+    (slice_get rows first ≡ Some (truths s a)) × RowsFit rows s (suc first) asked

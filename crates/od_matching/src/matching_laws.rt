@@ -3,7 +3,7 @@
 //! A law is what a function here ensures; the function itself does nothing.
 ghost use Rattle.od_matching.specs.Matching.Ascending.{CandidatesAreThose, OneListOfCandidates};
 ghost use Rattle.od_matching.specs.Matching.Counts.{EventCountIsNone, HopCountIsNone};
-ghost use Rattle.od_matching.specs.Matching.Dependence.{ReachDependsOnAsked, RuleDependsOnAsked, ScanDependsOnAsked};
+ghost use Rattle.od_matching.specs.Matching.Dependence.{ReachDependsOnAsked, RuleDependsOnAsked, ScanDependsOnAsked, StateOnlyByLabels};
 ghost use Rattle.od_matching.specs.Matching.Laws.{BestExists, CapturesStayWithin, NoProperFront, OneBest, OneScan, ReachIsComputed, SameChoicesAgree, SamenessIsEquality, ScanIsApart, ScanIsComputed, ScanIsShort, StaysWithin, TakesWhereNotNullable};
 
 /// The choices of a derivation decide its end and its captures, and none goes on where another has ended.
@@ -65,4 +65,5 @@ pub fn finds_what_is_asked()
     ensures scan { ScanDependsOnAsked }
     ensures reach { ReachDependsOnAsked }
     ensures rule { RuleDependsOnAsked }
+    ensures state { StateOnlyByLabels }
 {}

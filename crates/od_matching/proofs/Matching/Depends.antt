@@ -12,7 +12,7 @@ use Rattle.od_asked.specs.Holds.{holds}
 use Rattle.od_asked.specs.Named.{named_surface, named_surfaces, named_label, named_hop, named_event, named_body, named_rule}
 use Rattle.od_asked.specs.Tables.{truths, columns_of}
 use Rattle.od_matching.specs.Matching.Candidates.{span, spans, candidates_in, candidates_of, candidates_at}
-use Rattle.od_matching.specs.Matching.Dependence.{ends_of, AnswerAlike, LinkAlike, SameSpansOf, LabelAlike}
+use Rattle.od_matching.specs.Matching.Dependence.{ends_of, AnswerAlike, LinkAlike, SameSpansOf, LabelAlike, StatesAlike}
 use Rattle.od_matching.specs.Matching.Derives.{World, fits_token, holds_before, looks, first_turns, first, first_order, first_of}
 use Rattle.od_matching.specs.Matching.Events.{mentions_with, mentions_at, event_mentions, counted_with, count_on, count_from, event_count}
 use Rattle.od_matching.specs.Matching.First.{Trial, accept, first_one, first_test, first_jump, first_then, first_or, first_named}
@@ -298,8 +298,12 @@ same_reach p s s' marked b answers links =
     ap (λ (f : Set → Set). f marked b) (same_reached s s' answers.tokens links p (alike_each s s' (asked_path p) answers.truths))
 
 pub same_outcome : (r : Rule) (d k : ℕ) (s s' : Sentence) (state state' : List Mention)
-    → AnswerAlike (asked_rule r) s s' → LinkAlike s s' → LabelAlike (named_rule r) (map labelled state) (map labelled state')
+    → AnswerAlike (asked_rule r) s s' → LinkAlike s s' → StatesAlike (named_rule r) state state'
     → rule_mentions r d k s state ≡ rule_mentions r d k s' state'
 unfolding rule_mentions
 same_outcome r d k s s' state state' answers links named =
     same_body s s' answers.tokens links (map labelled state) (map labelled state') r d k r.body (alike_each s s' (asked_rule r) answers.truths) named
+
+pub same_state : (r : Rule) (d k : ℕ) (s : Sentence) (state state' : List Mention)
+    → StatesAlike (named_rule r) state state' → rule_mentions r d k s state ≡ rule_mentions r d k s state'
+same_state r d k s state state' named = same_outcome r d k s s state state' (record { tokens = refl; truths = refl }) refl named

@@ -35,7 +35,8 @@ pub record Test (test : ℕ → Bool) (i j : ℕ) (c : List Part) (t : List ℕ)
   pub passes : test i ≡ true
   pub stays : Stays i j c t
 
--- a span that begins at the place is taken; the choice is what it leaves of the sentence, so the longest comes first
+-- a span that begins at the place is taken; the choice is what it leaves of the sentence,
+-- so the longest comes first
 pub record Jump (length : ℕ) (is_span : ℕ → ℕ → Bool) (i j : ℕ) (c : List Part) (t : List ℕ) : Type 0 where
   pub passes : is_span i j ≡ true
   pub forward : i < j
@@ -97,7 +98,8 @@ stop false = 1
 -- up to n further turns, each of which takes a token; with none left to choose there is no choice
 abbrev pub Further : Bool → Relation → ℕ → Relation
 Further lazy A zero = Stays
-Further lazy A (suc n) = Either (Choose (another lazy) (Then (Took A) (Further lazy A n))) (Choose (stop lazy) Stays)
+Further lazy A (suc n) =
+    Either (Choose (another lazy) (Then (Took A) (Further lazy A n))) (Choose (stop lazy) Stays)
 
 -- n further turns, and the choice to stop
 abbrev pub Exactly : Bool → Relation → ℕ → Relation

@@ -19,6 +19,9 @@ EventCountIsNone =
 abbrev pub AreFew : ℕ → List (List Match) → Type 0
 AreFew most lists = Each (λ list. length list ≤ most) (later_of lists)
 
--- a hop has no count exactly where its last list is empty, or each list after a hop is no longer than the most
+-- a hop has no count exactly where its last list is empty,
+-- or each list after a hop is no longer than the most
 abbrev pub HopCountIsNone : Type 0
-HopCountIsNone = (most : ℕ) (lists : List (List Match)) → (hop_count most lists ≡ None) ↔ ((last_of lists ≡ []) ⊎ AreFew most lists)
+HopCountIsNone =
+    (most : ℕ) (lists : List (List Match))
+    → (hop_count most lists ≡ None) ↔ ((last_of lists ≡ []) ⊎ AreFew most lists)

@@ -1,4 +1,5 @@
--- On what the findings of a pattern, a path and a rule depend: on what it asks, and on the labels that it names.
+-- On what the findings of a pattern, a path and a rule depend:
+-- on what it asks, and on the labels that it names.
 use Rattle.std.specs.Prelude.{◌≡◌, ℕ, List, length, map}
 use Rattle.od_text.specs.Lists.{Each}
 use Rattle.od_asked.specs.Asked.{Asked, asked_surface, asked_path, asked_rule}
@@ -36,21 +37,34 @@ SameSpansOf m m' label = (i j : ℕ) → is_span_in m label i j ≡ is_span_in m
 abbrev pub LabelAlike : List (List ℕ) → List Labelled → List Labelled → Type 0
 LabelAlike named m m' = Each (SameSpansOf m m') named
 
--- a pattern has the same matches where the answers to what it asks are the same, and the spans with the labels that it names
+-- a pattern has the same matches where the answers to what it asks are the same,
+-- and the spans with the labels that it names
 abbrev pub ScanDependsOnAsked : Type 0
 ScanDependsOnAsked =
     (p : Surface) (s s' : Sentence) (m m' : List Labelled)
-    → AnswerAlike (asked_surface p) s s' → LabelAlike (named_surface p) m m' → scan_of p s m ≡ scan_of p s' m'
+    → AnswerAlike (asked_surface p) s s' → LabelAlike (named_surface p) m m'
+    → scan_of p s m ≡ scan_of p s' m'
 
--- a path leads to the same tokens where the answers to what it asks are the same, over edges between the same tokens
+-- a path leads to the same tokens where the answers to what it asks are the same,
+-- over edges between the same tokens
 abbrev pub ReachDependsOnAsked : Type 0
 ReachDependsOnAsked =
     (p : Path) (s s' : Sentence) (marked : Set) (b : ℕ)
     → AnswerAlike (asked_path p) s s' → LinkAlike s s' → reached s p marked b ≡ reached s' p marked b
 
+-- two states have the same spans with each of the labels
+abbrev pub StatesAlike : List (List ℕ) → List Mention → List Mention → Type 0
+StatesAlike named state state' = LabelAlike named (map labelled state) (map labelled state')
+
 -- a rule has the same outcome in both cases, whatever else the sentences and the states have
 abbrev pub RuleDependsOnAsked : Type 0
 RuleDependsOnAsked =
     (r : Rule) (d k : ℕ) (s s' : Sentence) (state state' : List Mention)
-    → AnswerAlike (asked_rule r) s s' → LinkAlike s s' → LabelAlike (named_rule r) (map labelled state) (map labelled state')
+    → AnswerAlike (asked_rule r) s s' → LinkAlike s s' → StatesAlike (named_rule r) state state'
     → rule_mentions r d k s state ≡ rule_mentions r d k s' state'
+
+-- so on one sentence the outcome depends on the state only through the labels that the rule names
+abbrev pub StateOnlyByLabels : Type 0
+StateOnlyByLabels =
+    (r : Rule) (d k : ℕ) (s : Sentence) (state state' : List Mention)
+    → StatesAlike (named_rule r) state state' → rule_mentions r d k s state ≡ rule_mentions r d k s state'

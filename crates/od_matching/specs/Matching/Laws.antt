@@ -18,16 +18,20 @@ use Rattle.od_pattern.specs.declared.pattern.Surface.{Surface}
 -- two derivations of a pattern from one place by the same choices have the same end and the same captures
 abbrev pub SameChoicesAgree : Type 0
 SameChoicesAgree =
-    (w : World) (p : Surface) (i j j' : ℕ) (c c' : List Part) (t : List ℕ) → derives w p i j c t → derives w p i j' c' t → (j ≡ j') × (c ≡ c')
+    (w : World) (p : Surface) (i j j' : ℕ) (c c' : List Part) (t : List ℕ)
+    → derives w p i j c t → derives w p i j' c' t → (j ≡ j') × (c ≡ c')
 
 -- no list of choices of a pattern at a place is a proper front of another's
 abbrev pub NoProperFront : Type 0
 NoProperFront =
-    (w : World) (p : Surface) (i j j' : ℕ) (c c' : List Part) (t u : List ℕ) → derives w p i j c t → derives w p i j' c' (t ++ u) → u ≡ []
+    (w : World) (p : Surface) (i j j' : ℕ) (c c' : List Part) (t u : List ℕ)
+    → derives w p i j c t → derives w p i j' c' (t ++ u) → u ≡ []
 
 -- a derivation takes no token outside the sentence
 abbrev pub StaysWithin : Type 0
-StaysWithin = (w : World) (p : Surface) (i j : ℕ) (c : List Part) (t : List ℕ) → i ≤ w.length → derives w p i j c t → (i ≤ j) × (j ≤ w.length)
+StaysWithin =
+    (w : World) (p : Surface) (i j : ℕ) (c : List Part) (t : List ℕ)
+    → i ≤ w.length → derives w p i j c t → (i ≤ j) × (j ≤ w.length)
 
 -- a capture lies from i to j
 abbrev pub IsInside : ℕ → ℕ → Part → Type 0
@@ -35,11 +39,15 @@ IsInside i j x = (i ≤ x.start) × (x.start ≤ x.end) × (x.end ≤ j)
 
 -- the captures of a derivation lie within what it takes
 abbrev pub CapturesStayWithin : Type 0
-CapturesStayWithin = (w : World) (p : Surface) (i j : ℕ) (c : List Part) (t : List ℕ) → i ≤ w.length → derives w p i j c t → Each (IsInside i j) c
+CapturesStayWithin =
+    (w : World) (p : Surface) (i j : ℕ) (c : List Part) (t : List ℕ)
+    → i ≤ w.length → derives w p i j c t → Each (IsInside i j) c
 
 -- at a place there is at most one best derivation
 abbrev pub OneBest : Type 0
-OneBest = (w : World) (p : Surface) (i j j' : ℕ) (c c' : List Part) → IsBest w p i j c → IsBest w p i j' c' → (j ≡ j') × (c ≡ c')
+OneBest =
+    (w : World) (p : Surface) (i j j' : ℕ) (c c' : List Part)
+    → IsBest w p i j c → IsBest w p i j' c' → (j ≡ j') × (c ≡ c')
 
 -- where there is a derivation there is a best one
 abbrev pub BestExists : Type 0
@@ -60,15 +68,18 @@ AreApart count i (m ∷ ms) = (i ≤ m.span.start) × MatchLiesWithin count m ×
 
 -- the matches of a sentence are in order and share no token
 abbrev pub ScanIsApart : Type 0
-ScanIsApart = (p : Surface) (s : Sentence) (labels : List Labelled) → AreApart (length s.tokens) 0 (scan_of p s labels)
+ScanIsApart =
+    (p : Surface) (s : Sentence) (labels : List Labelled) → AreApart (length s.tokens) 0 (scan_of p s labels)
 
 -- a sentence has no more matches than tokens
 abbrev pub ScanIsShort : Type 0
-ScanIsShort = (p : Surface) (s : Sentence) (labels : List Labelled) → length (scan_of p s labels) ≤ length s.tokens
+ScanIsShort =
+    (p : Surface) (s : Sentence) (labels : List Labelled) → length (scan_of p s labels) ≤ length s.tokens
 
 -- the list that is computed has the matches of the whole sentence
 abbrev pub ScanIsComputed : Type 0
-ScanIsComputed = (p : Surface) (s : Sentence) (labels : List Labelled) → Scans (world_in s labels) p 0 (scan_of p s labels)
+ScanIsComputed =
+    (p : Surface) (s : Sentence) (labels : List Labelled) → Scans (world_in s labels) p 0 (scan_of p s labels)
 
 -- from a place on there is at most one list of matches
 abbrev pub OneScan : Type 0

@@ -92,7 +92,8 @@ Set = ℕ → Bool
 
 -- the tokens behind an edge whose label fits and that begins at a marked token
 abbrev pub cross : (from to : Edge → ℕ) → Option Value → List Edge → Set → Set
-cross from to value edges marked b = list_any (λ edge. fits_any value edge.label && marked (from edge) && (to edge == b)) edges
+cross from to value edges marked b =
+    list_any (λ edge. fits_any value edge.label && marked (from edge) && (to edge == b)) edges
 
 -- the tokens of both sets
 abbrev pub union : Set → Set → Set
@@ -108,10 +109,12 @@ abbrev pub spread : (Set → Set) → ℕ → Set → Set
 spread f zero marked = marked
 spread f (suc n) marked = spread f n (union marked (f marked))
 
--- at least and at most so many times; where there is no most, as many further turns as there are nodes are enough
+-- at least and at most so many times;
+-- where there is no most, as many further turns as there are nodes are enough
 abbrev pub repeated : ℕ → (Set → Set) → ℕ → Option ℕ → Set → Set
 repeated count f least None marked b = spread f count (turned f least marked) b
-repeated count f least (Some most) marked b = nat_le least most && spread f (most - least) (turned f least marked) b
+repeated count f least (Some most) marked b =
+    nat_le least most && spread f (most - least) (turned f least marked) b
 
 module _ (s : Sentence) where
   unfoldable mutual
@@ -122,7 +125,8 @@ module _ (s : Sentence) where
     reached (Filter c) marked b = marked b && holds_there s c b
     reached (Seq' v row) marked b = reached_on row marked b
     reached (Alt' v row) marked b = reached_by row marked b
-    reached (Repeat' v (more_of-Path p end_of-Path) least most) marked b = repeated (nodes s) (reached p) least most marked b
+    reached (Repeat' v (more_of-Path p end_of-Path) least most) marked b =
+        repeated (nodes s) (reached p) least most marked b
 
     -- the paths one after another
     pub reached_on : {m : _} → Row_of-Path m → Set → Set

@@ -31,13 +31,16 @@ outcome_of (Some count) found = crowded count
 
 -- of a hop: its last list without repeats
 abbrev pub hop_outcome : Rule → ℕ → ℕ → List (List Match) → RuleOutcome
-hop_outcome r d k lists = outcome_of (hop_count most_found lists) (distinct (map (mention_at r d k) (last_of lists)))
+hop_outcome r d k lists =
+    outcome_of (hop_count most_found lists) (distinct (map (mention_at r d k) (last_of lists)))
 
 -- by the two kinds of rule
 abbrev pub body_outcome : Rule → ℕ → ℕ → Sentence → List Labelled → Body → RuleOutcome
 body_outcome r d k s m (Basic h) = hop_outcome r d k (hop_lists h s m)
-body_outcome r d k s m (EventBody e) = outcome_of (event_count most_found e s m) (event_mentions r d k e s m)
+body_outcome r d k s m (EventBody e) =
+    outcome_of (event_count most_found e s m) (event_mentions r d k e s m)
 
--- the mentions of rule r on sentence k of document d, where `state` has the mentions of that sentence so far
+-- the mentions of rule r on sentence k of document d,
+-- where `state` has the mentions of that sentence so far
 unfoldable pub rule_mentions : Rule → ℕ → ℕ → Sentence → List Mention → RuleOutcome
 rule_mentions r d k s state = body_outcome r d k s (map labelled state) r.body

@@ -46,7 +46,8 @@ take_or_go on i (Some o) = if nat_lt i o.end then match_of i o.end o.captures �
 -- the same list, computed, looking at no more than n places
 unfoldable pub scan_from : World → Surface → ℕ → ℕ → List Match
 scan_from w p zero i = []
-scan_from w p (suc n) i = if nat_lt i w.length then take_or_go (scan_from w p n) i (first w p accept i) else []
+scan_from w p (suc n) i =
+    if nat_lt i w.length then take_or_go (scan_from w p n) i (first w p accept i) else []
 
 -- the matches from place i on, computed
 abbrev pub scan_at : World → Surface → ℕ → List Match
@@ -54,7 +55,8 @@ scan_at w p i = scan_from w p (w.length - i) i
 
 -- one of the labelled spans has this label, start and end
 abbrev pub is_span_in : List Labelled → List ℕ → ℕ → ℕ → Bool
-is_span_in labels name i j = list_any (λ l. bytes_eq l.label name && (l.span.start == i) && (l.span.end == j)) labels
+is_span_in labels name i j =
+    list_any (λ l. bytes_eq l.label name && (l.span.start == i) && (l.span.end == j)) labels
 
 -- what a pattern asks of a sentence and the labelled spans on it
 abbrev pub world_in : Sentence → List Labelled → World
