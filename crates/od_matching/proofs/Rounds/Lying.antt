@@ -38,7 +38,7 @@ module _ (docs : List Doc) where
   -- a mention that a round meets lies in the documents
   abbrev ItemLies : Item → Type 0
   ItemLies (one m) = LiesIn docs m
-  ItemLies (crowd rule document sentence count) = Unit {0}
+  ItemLies (crowd c) = Unit {0}
 
   stands : (site : Site) → IsSite docs site → (m : Mention) → LiesAt site.document site.number (length site.words.tokens) m → LiesIn docs m
   stands site is m h = record {
@@ -87,7 +87,7 @@ module _ (docs : List Doc) where
 
     lies-walked : (r : RoundResult) (x : Item) → ResultLies r → ItemLies x → ResultLies (walked old r x)
     lies-walked (Found new) (one m) h k = lies-one new m (is_among (old ++ new) m) h k
-    lies-walked (Found new) (crowd rule document sentence count) h k = tt
+    lies-walked (Found new) (crowd c) h k = tt
     lies-walked (Crowded rule document sentence count) x h k = tt
     lies-walked (TooMany total) x h k = tt
 

@@ -12,10 +12,17 @@ use Rattle.od_matching.specs.Matching.Rules.{RuleOutcome, mentions, crowded, rul
 use Rattle.od_extraction.specs.Weight.{weight, most_weight}
 use Rattle.od_matching.specs.Rounds.Sites.{Site, sites, rules_in}
 
--- what a round meets: a mention, or a rule and a sentence with too many
+-- a rule, numbered from 1, that finds too much on a sentence, with the count that is too great
+pub record Crowd : Type 0 where
+  pub rule : ℕ
+  pub document : ℕ
+  pub sentence : ℕ
+  pub count : ℕ
+
+-- what a round meets: a mention, or a rule that finds too much
 pub data Item : Type 0 where
   one : Mention → Item
-  crowd : ℕ → ℕ → ℕ → ℕ → Item
+  crowd : Crowd → Item
 
 -- the mentions of one sentence
 abbrev pub in_sentence : ℕ → ℕ → List Mention → List Mention
@@ -24,7 +31,8 @@ in_sentence document number old = filter (λ m. m.document == document && m.sent
 -- what a rule of this number gives on a sentence
 abbrev pub items_of : ℕ → Site → RuleOutcome → List Item
 items_of rule site (mentions ms) = map one ms
-items_of rule site (crowded count) = crowd rule site.document site.number count ∷ []
+items_of rule site (crowded count) =
+    crowd (record { rule = rule; document = site.document; sentence = site.number; count = count }) ∷ []
 
 abbrev pub items_at : List Mention → ℕ × Rule → Site → List Item
 items_at old rule site = items_of rule.0 site (rule_mentions rule.1 site.document site.number site.words (in_sentence site.document site.number old))
@@ -44,7 +52,7 @@ weighed old new m = if nat_lt most_weight (weight (old ++ (new ++ m ∷ []))) th
 -- one item more: a mention that is there already is not added, and the first refusal stays
 abbrev pub walked : List Mention → RoundResult → Item → RoundResult
 walked old (Found new) (one m) = if is_among (old ++ new) m then Found new else weighed old new m
-walked old (Found new) (crowd rule document sentence count) = Crowded rule document sentence count
+walked old (Found new) (crowd c) = Crowded c.rule c.document c.sentence c.count
 walked old (Crowded rule document sentence count) item = Crowded rule document sentence count
 walked old (TooMany total) item = TooMany total
 
