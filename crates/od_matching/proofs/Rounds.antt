@@ -1,5 +1,12 @@
 pub mod Examples
 pub mod Joined
+pub mod Kept
+pub mod Later
 pub mod Lying
+pub mod New
+pub mod Refusals
+pub mod Stands
+pub mod States
+pub mod Terms
 pub mod Walks
 pub mod Weights

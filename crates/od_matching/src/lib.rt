@@ -2,3 +2,4 @@
 #![tactic(auto)]
 
 pub mod matching_laws;
+pub mod round_laws;

@@ -9,7 +9,7 @@ use Rattle.od_asked.specs.Holds.{holds}
 use Rattle.od_extraction.specs.Mentions.{same_mention}
 use Rattle.od_matching.specs.Matching.Rules.{rule_mentions}
 use Rattle.od_matching.specs.Matching.Scan.{scan_from, scan_of}
-use Rattle.od_matching.specs.Rounds.Round.{round, rounds}
+use Rattle.od_matching.specs.Rounds.Round.{round_over, rounds}
 use Rattle.od_matching.specs.Rounds.Phases.{phase, greatest_first}
 use Rattle.od_document.specs.declared.token.Token.{Token}
 use Rattle.od_document.specs.declared.sentence.Sentence.{Sentence}
@@ -80,7 +80,7 @@ abbrev barks : Mention
 barks = mention 0 0 1 (codes "Bark") (codes "late")
 
 late_rounds : rounds (bark ∷ []) (grammar late) 3 ≡ Some ([] ∷ (barks ∷ []) ∷ [] ∷ [])
-unfolding rounds round rule_mentions same_mention scan_of scan_from first holds hidden hidden-the_row-Surface-0 hidden-the_row-Surface-1
+unfolding rounds round_over rule_mentions same_mention scan_of scan_from first holds hidden hidden-the_row-Surface-0 hidden-the_row-Surface-1
 late_rounds = refl
 
 -- an empty round ends nothing before every rule has begun
@@ -120,7 +120,7 @@ grown = (mention 0 0 1 (codes "A") (codes "base") ∷ []) ∷ (mention 0 0 2 (co
 
 -- a round looks at the mentions that stood at its start, and not at its own
 grows_by_rounds : rounds (row ∷ []) (grammar growing) 3 ≡ Some grown
-unfolding rounds round rule_mentions same_mention scan_of scan_from first holds hidden hidden-the_row-Surface-0 hidden-the_row-Surface-1
+unfolding rounds round_over rule_mentions same_mention scan_of scan_from first holds hidden hidden-the_row-Surface-0 hidden-the_row-Surface-1
 grows_by_rounds = refl
 
 ends_at_the_limit : phase_of growing 3 grown ≡ AtLimit
@@ -153,5 +153,5 @@ rule_by_rule : rounds (dog ∷ zebras ∷ []) (grammar three_rules) 2 ≡ Some (
     mention 1 0 1 (codes "Other") (codes "other") ∷ mention 1 1 2 (codes "Other") (codes "other") ∷
     mention 0 2 3 (codes "Bark") (codes "bark") ∷ mention 1 1 2 (codes "Bark") (codes "bark") ∷
     mention 1 0 1 (codes "Zebra") (codes "zebra") ∷ []) ∷ [] ∷ [])
-unfolding rounds round rule_mentions same_mention scan_of scan_from first holds hidden hidden-the_row-Surface-0 hidden-the_row-Surface-1 hidden-the_row-Constraint-0
+unfolding rounds round_over rule_mentions same_mention scan_of scan_from first holds hidden hidden-the_row-Surface-0 hidden-the_row-Surface-1 hidden-the_row-Constraint-0
 rule_by_rule = refl

@@ -14,7 +14,7 @@ use Rattle.od_matching.specs.Matching.Rules.{RuleOutcome, mentions, crowded, rul
 use Rattle.od_extraction.specs.Spans.{LiesIn}
 use Rattle.od_extraction.specs.Weight.{weight, most_weight}
 use Rattle.od_matching.specs.Rounds.Sites.{Site, sites_of, sites, rules_in}
-use Rattle.od_matching.specs.Rounds.Round.{Item, one, crowd, in_sentence, items_of, items_at, items_by, items, weighed, walked, round, with_found, one_more, rounds}
+use Rattle.od_matching.specs.Rounds.Round.{Item, one, crowd, in_sentence, items_of, items_at, items_by, items, weighed, walked, round_over, round, with_found, one_more, rounds}
 use Rattle.od_extraction.specs.Joined.{joined}
 use Rattle.od_text.proofs.Lists.{Each-append, Each-weaker, Each-map, Each-flat_map, enumerate-at}
 use Rattle.od_matching.proofs.Matching.Lying.{LiesAt, rule-lies}
@@ -96,7 +96,7 @@ module _ (docs : List Doc) where
     lies-all r (x ∷ xs) h k = lies-all (walked old r x) xs (lies-walked r x h k.0) k.1
 
   round-lies : (g : Grammar) (r : ℕ) (old : List Mention) → ResultLies (round docs g r old)
-  unfolding round
+  unfolding round_over
   round-lies g r old = lies-all (distinct old) (Found []) (items docs g r (distinct old)) tt (items-lie g r (distinct old))
 
   -- the lists of rounds, where none was refused

@@ -10,7 +10,8 @@ use Rattle.od_extraction.specs.declared.mention.RoundResult.{RoundResult}
 use Rattle.od_extraction.specs.declared.mention.RoundResult.TheVariants.{Found, Crowded, TooMany}
 use Rattle.od_extraction.specs.Mentions.{is_among, with_new, distinct}
 use Rattle.od_extraction.specs.Weight.{weight, most_weight}
-use Rattle.od_matching.specs.Rounds.Round.{Item, one, crowd, items, weighed, walked, walk, round}
+use Rattle.od_matching.specs.Rounds.Sites.{Site, sites}
+use Rattle.od_matching.specs.Rounds.Round.{Item, one, crowd, items_in, weighed, walked, walk, round_over, round}
 
 -- the walk goes on from what it has found
 pub walk-append : (old : List Mention) (r : RoundResult) (xs ys : List Item) → fold (walked old) r (xs ++ ys) ≡ fold (walked old) (fold (walked old) r xs) ys
@@ -27,7 +28,7 @@ walk-crowded old rule document sentence count xs = fold_stays (walked old) (Crow
 
 -- against mentions without repeats the round is the walk
 pub round-walks : (docs : List Doc) (g : Grammar) (r : ℕ) (old : List Mention) → distinct old ≡ old → round docs g r old ≡ walk docs g r old
-unfolding round
+unfolding round_over
 round-walks docs g r old e = ap (walk docs g r) e
 
 -- a mention that is there already adds nothing
@@ -81,13 +82,17 @@ new-all old r [] h = h
 new-all old r (x ∷ xs) h = new-all old (walked old r x) xs (new-walked old r x h)
 
 -- a whole round
-round-new : (docs : List Doc) (g : Grammar) (r : ℕ) (old : List Mention) → IsNew (distinct old) (round docs g r old)
-unfolding round
-round-new docs g r old = new-all (distinct old) (Found []) (items docs g r (distinct old)) (sym (append-nil (distinct old)))
+round-new : (ss : List Site) (g : Grammar) (r : ℕ) (old : List Mention) → IsNew (distinct old) (round_over ss g r old)
+unfolding round_over
+round-new ss g r old = new-all (distinct old) (Found []) (items_in ss g r (distinct old)) (sym (append-nil (distinct old)))
 
 -- the mentions after a round without repeats are the old ones without repeats, and those that it found
+pub distinct-after : (ss : List Site) (g : Grammar) (r : ℕ) (old new : List Mention) → round_over ss g r old ≡ Found new → distinct (old ++ new) ≡ distinct old ++ new
+distinct-after ss g r old new e = fold-append with_new [] old new ∙ subst (IsNew (distinct old)) e (round-new ss g r old)
+
+-- the same over documents
 pub distinct-found : (docs : List Doc) (g : Grammar) (r : ℕ) (old new : List Mention) → round docs g r old ≡ Found new → distinct (old ++ new) ≡ distinct old ++ new
-distinct-found docs g r old new e = fold-append with_new [] old new ∙ subst (IsNew (distinct old)) e (round-new docs g r old)
+distinct-found docs g r old new e = distinct-after (sites docs) g r old new e
 
 -- mentions without repeats stay so
 pub distinct-stays : (docs : List Doc) (g : Grammar) (r : ℕ) (old new : List Mention) → distinct old ≡ old → round docs g r old ≡ Found new

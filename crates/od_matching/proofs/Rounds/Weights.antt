@@ -10,7 +10,7 @@ use Rattle.od_extraction.specs.declared.mention.RoundResult.{RoundResult}
 use Rattle.od_extraction.specs.declared.mention.RoundResult.TheVariants.{Found, Crowded, TooMany}
 use Rattle.od_extraction.specs.Mentions.{is_among, distinct}
 use Rattle.od_extraction.specs.Weight.{weight, most_weight}
-use Rattle.od_matching.specs.Rounds.Round.{Item, one, crowd, items, weighed, walked, walk, round}
+use Rattle.od_matching.specs.Rounds.Round.{Item, one, crowd, items, weighed, walked, walk, round_over, round}
 
 -- two lists weigh as much as both
 pub weight-append : (xs ys : List Mention) → weight (xs ++ ys) ≡ weight xs + weight ys
@@ -56,7 +56,7 @@ light-all old r (x ∷ xs) h = light-all old (walked old r x) xs (light-walked o
 
 -- a whole round
 round-light : (docs : List Doc) (g : Grammar) (r : ℕ) (old : List Mention) → distinct old ≡ old → weight old ≤ most_weight → IsLight old (round docs g r old)
-unfolding round
+unfolding round_over
 round-light docs g r old d h =
     let light : IsLight old (Found []) = subst (λ l. weight l ≤ most_weight) (sym (append-nil old)) h in
     subst (λ l. IsLight old (walk docs g r l)) (sym d) (light-all old (Found []) (items docs g r old) light)

@@ -13,6 +13,9 @@ greatest_first rules = fold (λ n rule. max n rule.priority.first) 0 rules
 abbrev pub ends_empty : List (List Mention) → Bool
 ends_empty lists = fold (λ b l. length l == 0) false lists
 
--- finished after a round that added nothing, once every rule has begun; at the limit after as many rounds; else going
+-- finished after a round that added nothing, once every rule has begun; at the limit after as many
+-- rounds; else going
 unfoldable pub phase : ℕ → ℕ → List (List Mention) → Phase
-phase first limit lists = if ends_empty lists && nat_le first (length lists) then Finished else (if length lists == limit then AtLimit else Going)
+phase first limit lists =
+    if ends_empty lists && nat_le first (length lists) then Finished
+    else (if length lists == limit then AtLimit else Going)
