@@ -1,7 +1,7 @@
 //! The laws of derivations, scans, paths and sameness, which hold of every pattern, sentence and mention.
 //!
 //! A law is what a function here ensures; the function itself does nothing.
-ghost use Rattle.od_matching.specs.Matching.Ascending.{CandidatesAreThose, OneListOfCandidates};
+ghost use Rattle.od_matching.specs.Matching.Ascending.{CandidatesAreFew, CandidatesAreThose, OneListOfCandidates};
 ghost use Rattle.od_matching.specs.Matching.Counts.{EventCountIsNone, HopCountIsNone};
 ghost use Rattle.od_matching.specs.Matching.Dependence.{ReachDependsOnAsked, RuleDependsOnAsked, ScanDependsOnAsked, StateOnlyByLabels};
 ghost use Rattle.od_matching.specs.Matching.Laws.{BestExists, CapturesStayWithin, NoProperFront, OneBest, OneScan, ReachIsComputed, SameChoicesAgree, SamenessIsEquality, ScanIsApart, ScanIsComputed, ScanIsShort, StaysWithin, TakesWhereNotNullable};
@@ -49,9 +49,11 @@ pub fn sameness_is_equality()
 {}
 
 /// The candidates with a label are the spans that have it and a reached token, ascending, each once.
+/// With or without a label they are no more than the square of the number of tokens.
 pub fn candidates_ascend()
     ensures candidates { CandidatesAreThose }
     ensures unique { OneListOfCandidates }
+    ensures few { CandidatesAreFew }
 {}
 
 /// Hops and events have a count exactly where what they find is too much.
