@@ -8,6 +8,7 @@ pub mod Distinct
 pub mod EdgeExamples
 pub mod Enclosed
 pub mod Examples
+pub mod Growing
 pub mod Lying
 pub mod PathExamples
 pub mod Preferred

@@ -2,7 +2,7 @@
 //!
 //! A law is what a function here ensures; the function itself does nothing.
 ghost use Rattle.od_matching.specs.Matching.Ascending.{CandidatesAreFew, CandidatesAreThose, OneListOfCandidates};
-ghost use Rattle.od_matching.specs.Matching.Counts.{EventCountIsNone, HopCountIsNone};
+ghost use Rattle.od_matching.specs.Matching.Counts.{EventCountIsNone, HopCountIsNone, ProductsGrow};
 ghost use Rattle.od_matching.specs.Matching.Dependence.{ReachDependsOnAsked, RuleDependsOnAsked, ScanDependsOnAsked, StateOnlyByLabels};
 ghost use Rattle.od_matching.specs.Matching.Laws.{BestExists, CapturesStayWithin, NoProperFront, OneBest, OneScan, ReachIsComputed, SameChoicesAgree, SamenessIsEquality, ScanIsApart, ScanIsComputed, ScanIsShort, StaysWithin, TakesWhereNotNullable};
 
@@ -60,6 +60,11 @@ pub fn candidates_ascend()
 pub fn counts_are_of_lists()
     ensures event { EventCountIsNone }
     ensures hop { HopCountIsNone }
+{}
+
+/// The products of an event may be made from the left, argument by argument.
+pub fn products_grow()
+    ensures { ProductsGrow }
 {}
 
 /// What is found depends on a sentence only through what is asked of it, and on a state only through the labels that are named.

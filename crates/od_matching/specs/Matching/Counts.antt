@@ -1,11 +1,14 @@
--- What the counts of hops and events say of the lists that they count.
-use Rattle.std.specs.Prelude.{◌≡◌, ◌↔◌, ℕ, ◌≤◌, ◌⊎◌, List, [], length, None}
+-- What the counts of hops and events say of the lists that they count,
+-- and how the products of an event grow.
+use Rattle.std.specs.Prelude.{◌≡◌, ◌↔◌, ℕ, ◌≤◌, ◌⊎◌, List, [], ◌∷◌, ◌++◌, length, map, None}
+use Rattle.std.specs.List.{flat_map}
 use Rattle.od_text.specs.Lists.{Each}
 use Rattle.od_matching.specs.Matching.Hops.{later_of, last_of, hop_count}
-use Rattle.od_matching.specs.Matching.Events.{event_mentions, event_count}
+use Rattle.od_matching.specs.Matching.Events.{products, event_mentions, event_count}
 use Rattle.od_document.specs.declared.sentence.Sentence.{Sentence}
 use Rattle.od_extraction.specs.declared.mention.Labelled.{Labelled}
 use Rattle.od_extraction.specs.declared.mention.Match.{Match}
+use Rattle.od_extraction.specs.declared.mention.Part.{Part}
 use Rattle.od_pattern.specs.declared.rule.EventRule.{EventRule}
 use Rattle.od_pattern.specs.declared.rule.Rule.{Rule}
 
@@ -25,3 +28,9 @@ abbrev pub HopCountIsNone : Type 0
 HopCountIsNone =
     (most : ℕ) (lists : List (List Match))
     → (hop_count most lists ≡ None) ↔ ((last_of lists ≡ []) ⊎ AreFew most lists)
+
+-- with the options of one argument more at the end, each of them stands behind each product of the others
+abbrev pub ProductsGrow : Type 0
+ProductsGrow =
+    (options : List (List (List Part))) (last : List (List Part))
+    → products (options ++ last ∷ []) ≡ flat_map (λ p. map (λ o. p ++ o) last) (products options)
