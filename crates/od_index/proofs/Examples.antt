@@ -14,7 +14,7 @@ use Rattle.od_index.specs.Terms.{Term, terms_of}
 use Rattle.od_index.specs.Tables.{term_cmp, IsTableOf, table_of, IsNumber}
 use Rattle.od_index.specs.Postings.{postings, edges_with, edge_postings, labels_in}
 use Rattle.od_index.specs.Segments.{Stored, Tiles, segment_of, size, sites_after, merged, posted}
-use Rattle.od_index.specs.Views.{sites_seen}
+use Rattle.od_index.specs.Views.{sites_seen, site_at}
 use Rattle.od_index.proofs.Placed.{ascending-is}
 use Rattle.od_index.proofs.Segments.{segment-is}
 use Rattle.od_index.proofs.Tables.{terms-exact}
@@ -155,6 +155,13 @@ all_sites = refl
 -- a view may end within a segment
 first_seen : sites_seen (record { segments = left ∷ right ∷ []; documents = 1 }) ≡ site 0 0 bark ∷ []
 first_seen = refl
+
+-- a place is that of a segment and a sentence in it
+at_a_place : site_at (left ∷ right ∷ []) (1, 0) ≡ Some (site 2 0 bark)
+at_a_place = refl
+
+no_such_place : site_at (left ∷ right ∷ []) (1, 1) ≡ None
+no_such_place = refl
 
 -- merged they are the segment of the three documents
 merged_sites : (merged left right []).sites ≡ sites three_docs

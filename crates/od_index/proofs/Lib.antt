@@ -4,6 +4,7 @@ pub mod Examples
 pub mod Members
 pub mod Numbered
 pub mod Orders
+pub mod Places
 pub mod Placed
 pub mod Postings
 pub mod Segments

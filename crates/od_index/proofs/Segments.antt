@@ -5,10 +5,10 @@ use Rattle.std.proofs.lemmas.List.Concat.{flat_map-append}
 use Rattle.od_index.specs.Sites.{Site, sites, later, sentences_in}
 use Rattle.od_index.specs.Terms.{Term, terms_of, sentence_terms}
 use Rattle.od_index.specs.Tables.{IsTableOf, term_cmp}
-use Rattle.od_index.specs.Segments.{Stored, StandsFor, segment_of, size, merged, posted, IsEdgePosted}
+use Rattle.od_index.specs.Segments.{Stored, size, posted}
 use Rattle.od_document.specs.declared.sentence.Sentence.{Sentence}
 use Rattle.od_index.specs.Laws.{OneSegment, SegmentIsComputed, MergedStands, PostingsMerge, EdgePostingsMerge}
-use Rattle.od_index.specs.Postings.{Posting, shifted, postings, IsEdgePosting}
+use Rattle.od_index.specs.Postings.{shifted, postings, IsEdgePosting}
 use Rattle.od_index.proofs.Numbered.{sites-join, sentences-later, postings-join}
 use Rattle.od_index.proofs.Postings.{edge-postings-join}
 use Rattle.od_index.proofs.Placed.{ascending-is}

@@ -1,5 +1,5 @@
 -- The laws of tables, postings and segments.
-use Rattle.std.specs.Prelude.{◌≡◌, ◌≤◌, ◌*◌, ℕ, List, [], ◌∷◌, ◌++◌, Contains, length, map, take, sum_by}
+use Rattle.std.specs.Prelude.{◌≡◌, ◌≤◌, ◌*◌, ℕ, List, [], ◌∷◌, ◌++◌, Contains, length, map, take, sum_by, Some}
 use Rattle.od_document.specs.declared.doc.Doc.{Doc}
 use Rattle.od_document.specs.declared.sentence.Sentence.{Sentence}
 use Rattle.od_pattern.specs.declared.pattern.Field.{Field}
@@ -9,7 +9,7 @@ use Rattle.od_index.specs.Tables.{IsTableOf, table_of, IsNumber}
 use Rattle.od_index.specs.Sentences.{HasTerms}
 use Rattle.od_index.specs.Postings.{Posting, IsPostingList, shifted, postings, edges_with, IsEdgePosting, edge_postings, AreLabels, labels_in, AreEdgePostings}
 use Rattle.od_index.specs.Segments.{Stored, StandsFor, bytes_of, segment_of, Tiles, size, sites_after, merged, posted, IsEdgePosted}
-use Rattle.od_index.specs.Views.{Seen, sites_seen}
+use Rattle.od_index.specs.Views.{Seen, sites_seen, places, site_at}
 
 -- some terms have one table at most
 abbrev pub OneTable : Type 0
@@ -137,6 +137,11 @@ abbrev pub FirstAreSeen : Type 0
 FirstAreSeen =
     (v : Seen) (docs : List Doc) → Tiles v.segments docs
     → sites_seen v ≡ sites (take v.documents docs)
+
+-- at each place of segments stands one of their sentences, and at all places together stand all
+abbrev pub EachPlaceHasSite : Type 0
+EachPlaceHasSite =
+    (segments : List Stored) → map (site_at segments) (places segments) ≡ map Some (sites_after 0 segments)
 
 -- a segment more tiles with its documents behind the others
 abbrev pub TilesGrow : Type 0

@@ -1,7 +1,7 @@
 //! The laws of tables, postings and segments, which hold of every document.
 //!
 //! A law is what a function here ensures; the function itself does nothing.
-ghost use Rattle.od_index.specs.Laws.{OneTable, TableIsComputed, EachIsNumbered, OneNumber, TableIsShort, TablesJoin, TableServes, SitesJoin, PostingsJoin, EdgesJoin, PostingsAscend, EdgePostingsJoin, OneEdgePosting, EdgePostingIsComputed, OneListOfLabels, LabelsAreComputed, OneListOfEdges, OneSegment, SegmentIsComputed, SegmentIsSmall, TilesHaveAll, SizesSum, FirstAreSeen, TilesGrow, MergedStands, TilesMerge, PostingsMerge, EdgePostingsMerge};
+ghost use Rattle.od_index.specs.Laws.{OneTable, TableIsComputed, EachIsNumbered, OneNumber, TableIsShort, TablesJoin, TableServes, SitesJoin, PostingsJoin, EdgesJoin, PostingsAscend, EdgePostingsJoin, OneEdgePosting, EdgePostingIsComputed, OneListOfLabels, LabelsAreComputed, OneListOfEdges, OneSegment, SegmentIsComputed, SegmentIsSmall, TilesHaveAll, SizesSum, FirstAreSeen, EachPlaceHasSite, TilesGrow, MergedStands, TilesMerge, PostingsMerge, EdgePostingsMerge};
 
 /// Some terms have exactly one table.
 pub fn table_is_unique()
@@ -70,6 +70,11 @@ pub fn tiles_have_all()
     ensures all { TilesHaveAll }
     ensures sizes { SizesSum }
     ensures seen { FirstAreSeen }
+{}
+
+/// The places of segments are those of their sentences, in order.
+pub fn places_have_sites()
+    ensures { EachPlaceHasSite }
 {}
 
 /// A segment may be added behind the others, and neighbours may be merged: they tile the documents.

@@ -22,7 +22,7 @@ use Rattle.od_asked.specs.Holds.{texts_at}
 use Rattle.od_matching.specs.Rounds.Candidates.{Choice, KeepsAll, items_kept, openings}
 use Rattle.od_matching.specs.Rounds.Phases.{phase}
 use Rattle.od_matching.specs.Rounds.Round.{one, known_at, items_over, items_where_run, items_in, items_by, walked, walk_over, round_over, round}
-use Rattle.od_matching.specs.Rounds.Sites.{Site, sites, runs_in, rules_in}
+use Rattle.od_matching.specs.Rounds.Sites.{Site, sites, rules_in}
 use Rattle.od_matching.specs.Rounds.Standing.{standing, with_round, next_round, phase_at, met_in}
 use Rattle.od_matching.specs.Rounds.States.{IsState, AreSentencesWith, sentences_with}
 
