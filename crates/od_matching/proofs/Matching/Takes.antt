@@ -7,7 +7,7 @@ use Rattle.od_matching.specs.Matching.Derives.{World, fits_token, turns_from, de
 use Rattle.od_matching.proofs.Matching.Derived.{within, within-in_order}
 use Rattle.od_matching.proofs.Matching.Preferred.{Within, within-Times, within-Further, within-Endless}
 use Rattle.od_extraction.specs.declared.mention.Part.{Part}
-use Rattle.od_pattern.specs.Nullable.{nullable, nullable_all, nullable_any}
+use Rattle.od_pattern.specs.Nullable.{is_nullable, are_nullable, is_some_nullable}
 use Rattle.od_pattern.specs.declared.pattern.Surface.{Surface, Row_of-Surface, end_of-Surface, more_of-Surface}
 use Rattle.od_pattern.specs.declared.pattern.Surface.TheVariants.{Token, Label, Look, First, Last, Seq', Alt', Repeat', Capture'}
 
@@ -60,9 +60,9 @@ takes-turns l lazy A least (Some most) e wa ta i j c t h d = takes-Times l A lea
 
 module _ (w : World) where
   mutual
-    unfolding derives in_order one_of nullable nullable_all nullable_any
+    unfolding derives in_order one_of
 
-    pub takes : (p : Surface) → nullable p ≡ false → Takes w.length (derives w p)
+    pub takes : (p : Surface) → is_nullable p ≡ false → Takes w.length (derives w p)
     takes (Token c) e = takes-OneToken w.length (fits_token w c)
     takes (Label name) e = takes-Jump w.length (w.is_span name)
     takes (Look ahead positive c) e = true-false e
@@ -71,26 +71,26 @@ module _ (w : World) where
     takes (Seq' v row) e = takes-in_order row e
     takes (Alt' v row) e = takes-one_of 0 row e
     takes (Repeat' v (more_of-Surface p end_of-Surface) turns) e =
-        let both = neither (turns.least == 0) (nullable p) e in
+        let both = neither (turns.least == 0) (is_nullable p) e in
         takes-turns w.length turns.lazy (derives w p) turns.least turns.most both.0 (within w p) (takes p both.1)
     takes (Capture' name v (more_of-Surface p end_of-Surface)) e = takes-Named w.length name (derives w p) (takes p e)
 
-    takes-in_order : {m : _} (row : Row_of-Surface m) → nullable_all row ≡ false → Takes w.length (in_order w row)
+    takes-in_order : {m : _} (row : Row_of-Surface m) → are_nullable row ≡ false → Takes w.length (in_order w row)
     takes-in_order end_of-Surface e = true-false e
     takes-in_order (more_of-Surface p rest) e = λ i j cs t h d.
         let left = within w p i d.mid d.c1 d.t1 h d.left in
         let from : i ≤ d.mid = left.0 in
         let on : d.mid ≤ j = (within-in_order w rest d.mid j d.c2 d.t2 left.1 d.right).0 in
-        elim (cases_Bool (nullable p)) [
-          | inl yes' ↦ let lt : d.mid < j = takes-in_order rest (second (nullable p) (nullable_all rest) yes' e) d.mid j d.c2 d.t2 left.1 d.right in omega arith
+        elim (cases_Bool (is_nullable p)) [
+          | inl yes' ↦ let lt : d.mid < j = takes-in_order rest (second (is_nullable p) (are_nullable rest) yes' e) d.mid j d.c2 d.t2 left.1 d.right in omega arith
           | inr no' ↦ let lt : i < d.mid = takes p no' i d.mid d.c1 d.t1 h d.left in omega arith
         ]
 
-    takes-one_of : (k : ℕ) {m : _} (row : Row_of-Surface m) → nullable_any row ≡ false → Takes w.length (one_of w k row)
+    takes-one_of : (k : ℕ) {m : _} (row : Row_of-Surface m) → is_some_nullable row ≡ false → Takes w.length (one_of w k row)
     takes-one_of k end_of-Surface e = λ i j cs t h d. absurd d
     takes-one_of k (more_of-Surface p rest) e =
-        let both = neither (nullable p) (nullable_any rest) e in
+        let both = neither (is_nullable p) (is_some_nullable rest) e in
         takes-Either w.length (Choose k (derives w p)) (one_of w (suc k) rest) (takes-Choose w.length k (derives w p) (takes p both.0)) (takes-one_of (suc k) rest both.1)
 
-pub takes_token : (w : World) (p : Surface) (i j : ℕ) (c : List Part) (t : List ℕ) → nullable p ≡ false → i ≤ w.length → derives w p i j c t → i < j
+pub takes_token : (w : World) (p : Surface) (i j : ℕ) (c : List Part) (t : List ℕ) → is_nullable p ≡ false → i ≤ w.length → derives w p i j c t → i < j
 takes_token w p i j c t e h d = takes w p e i j c t h d

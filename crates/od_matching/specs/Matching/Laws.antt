@@ -6,7 +6,7 @@ use Rattle.od_matching.specs.Matching.Scan.{IsBest, Scans, world_in, scan_of}
 use Rattle.od_matching.specs.Matching.Reach.{Set, nodes, leads, reached}
 use Rattle.od_extraction.specs.Mentions.{same_mention}
 use Rattle.od_extraction.specs.Spans.{MatchLiesWithin}
-use Rattle.od_pattern.specs.Nullable.{nullable}
+use Rattle.od_pattern.specs.Nullable.{is_nullable}
 use Rattle.od_extraction.specs.declared.mention.Mention.{Mention}
 use Rattle.od_pattern.specs.declared.path.Path.{Path}
 use Rattle.od_document.specs.declared.sentence.Sentence.{Sentence}
@@ -58,7 +58,7 @@ BestExists =
 -- a derivation of a pattern that is not nullable takes a token
 abbrev pub TakesWhereNotNullable : Type 0
 TakesWhereNotNullable =
-    (w : World) (p : Surface) (i j : ℕ) (c : List Part) (t : List ℕ) → nullable p ≡ false → i ≤ w.length
+    (w : World) (p : Surface) (i j : ℕ) (c : List Part) (t : List ℕ) → is_nullable p ≡ false → i ≤ w.length
     → derives w p i j c t → i < j
 
 -- from a place on, each match lies within so many tokens, and begins at or behind the end of the one before
