@@ -1,14 +1,21 @@
--- Where a mention lies.
+-- Where a match and a mention lie.
 use Rattle.std.specs.Prelude.{◌≡◌, ℕ, ◌<◌, ◌≤◌, List, length, slice_get, Some}
 use Rattle.od_text.specs.Lists.{Each}
 use Rattle.od_document.specs.declared.sentence.Sentence.{Sentence}
 use Rattle.od_document.specs.declared.doc.Doc.{Doc}
+use Rattle.od_extraction.specs.declared.mention.Match.{Match}
 use Rattle.od_extraction.specs.declared.mention.Mention.{Mention}
 use Rattle.od_extraction.specs.declared.mention.Part.{Part}
 
 -- a part lies within so many tokens; it may have none
 abbrev pub PartLiesWithin : ℕ → Part → Type 0
 PartLiesWithin count part = (part.start ≤ part.end) × (part.end ≤ count)
+
+-- a match takes at least one of so many tokens, and its captures lie within them
+pub record MatchLiesWithin (count : ℕ) (m : Match) : Type 0 where
+  pub takes : m.span.start < m.span.end
+  pub ends : m.span.end ≤ count
+  pub captures : Each (PartLiesWithin count) m.captures
 
 -- a mention takes at least one of so many tokens, and its parts lie within them
 pub record LiesWithin (count : ℕ) (m : Mention) : Type 0 where

@@ -32,6 +32,13 @@ pub struct Part {
     pub end: u32,
 }
 
+/// What a pattern matched: the tokens that it took, at least one, and its captures in the order in which they begin.
+#[derive(Debug, Drop)]
+pub struct Match {
+    pub span: Span,
+    pub captures: List<Part>,
+}
+
 /// What a rule found: documents, the sentences of each and the tokens of each sentence are numbered from 0, the end is not included.
 #[derive(Debug, Drop)]
 pub struct Mention {

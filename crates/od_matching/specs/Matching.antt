@@ -1,13 +1,14 @@
+pub mod Ascending
 pub mod Candidates
 pub mod Choice
+pub mod Counts
+pub mod Dependence
 pub mod Derives
 pub mod Events
 pub mod First
-pub mod Holds
 pub mod Hops
 pub mod Laws
 pub mod Reach
 pub mod Rules
 pub mod Scan
-pub mod Texts
 pub mod Words

@@ -3,19 +3,19 @@ use Rattle.std.proofs.Common.{◌≡◌, ℕ, ◌+◌, ◌≤◌, List, [], ◌�
 use Rattle.od_pattern.specs.declared.pattern.Constraint.{Constraint, end_of-Constraint, more_of-Constraint}
 use Rattle.od_pattern.specs.declared.pattern.Constraint.TheVariants.{Not, And, Or, Not', And', Or'}
 use Rattle.od_pattern.specs.declared.constraint_walks.Frame.{Frame}
-use Rattle.od_pattern.specs.Walk.{weight, around, plugged, cost, total}
+use Rattle.od_pattern.specs.Walk.{parts_in, around, plugged, cost, total}
 
-pub weight_not : (c : Constraint) → weight (Not c) ≡ 1 + weight c
+pub parts_in_not : (c : Constraint) → parts_in (Not c) ≡ 1 + parts_in c
 unfolding Rattle.od_pattern.specs.declared.pattern.Constraint.TheBlock.hidden-the_row-Constraint-0 denote.Hole.Carrier.hidden
-weight_not c = refl
+parts_in_not c = refl
 
-pub weight_and : (a b : Constraint) → weight (And a b) ≡ 2 + weight a + weight b
+pub parts_in_and : (a b : Constraint) → parts_in (And a b) ≡ 2 + parts_in a + parts_in b
 unfolding Rattle.od_pattern.specs.declared.pattern.Constraint.TheBlock.hidden-the_row-Constraint-0 denote.Hole.Carrier.hidden
-weight_and a b = refl
+parts_in_and a b = refl
 
-pub weight_or : (a b : Constraint) → weight (Or a b) ≡ 2 + weight a + weight b
+pub parts_in_or : (a b : Constraint) → parts_in (Or a b) ≡ 2 + parts_in a + parts_in b
 unfolding Rattle.od_pattern.specs.declared.pattern.Constraint.TheBlock.hidden-the_row-Constraint-0 denote.Hole.Carrier.hidden
-weight_or a b = refl
+parts_in_or a b = refl
 
 pub plugged_more : (frames : List Frame) (f : Frame) (c : Constraint) → plugged (frames ++ f ∷ []) c ≡ plugged frames (around f c)
 plugged_more [] f c = refl
@@ -28,14 +28,14 @@ total_more (g ∷ frames) f = omega (arith, total_more frames f)
 pub plugged_step : (frames new : List Frame) (f : Frame) (at left : Constraint) → new ≡ frames ++ f ∷ [] → around f left ≡ at → plugged new left ≡ plugged frames at
 plugged_step frames new f at left e h = ap (λ z. plugged z left) e ∙ plugged_more frames f left ∙ ap (plugged frames) h
 
-pub total_step : (frames new : List Frame) (f : Frame) (at left : Constraint) (n : ℕ) → new ≡ frames ++ f ∷ [] → cost f + weight left ≤ weight at → total frames + weight at ≤ n → total new + weight left ≤ n
+pub total_step : (frames new : List Frame) (f : Frame) (at left : Constraint) (n : ℕ) → new ≡ frames ++ f ∷ [] → cost f + parts_in left ≤ parts_in at → total frames + parts_in at ≤ n → total new + parts_in left ≤ n
 total_step frames new f at left n e h b = let t : total new ≡ total frames + cost f = ap total e ∙ total_more frames f in omega (arith, t, h, b)
 
-pub weight_in_and : (at left right : Constraint) → at ≡ And left right → 1 + weight right + weight left ≤ weight at
-weight_in_and at left right e = let w : weight at ≡ 2 + weight left + weight right = ap weight e ∙ weight_and left right in omega (arith, w)
+pub parts_of_and : (at left right : Constraint) → at ≡ And left right → 1 + parts_in right + parts_in left ≤ parts_in at
+parts_of_and at left right e = let w : parts_in at ≡ 2 + parts_in left + parts_in right = ap parts_in e ∙ parts_in_and left right in omega (arith, w)
 
-pub weight_in_or : (at left right : Constraint) → at ≡ Or left right → 1 + weight right + weight left ≤ weight at
-weight_in_or at left right e = let w : weight at ≡ 2 + weight left + weight right = ap weight e ∙ weight_or left right in omega (arith, w)
+pub parts_of_or : (at left right : Constraint) → at ≡ Or left right → 1 + parts_in right + parts_in left ≤ parts_in at
+parts_of_or at left right e = let w : parts_in at ≡ 2 + parts_in left + parts_in right = ap parts_in e ∙ parts_in_or left right in omega (arith, w)
 
 first_of : Constraint → Constraint → Constraint
 first_of d (Not' s (more_of-Constraint c end_of-Constraint)) = c

@@ -1,3 +1,4 @@
 -- The definitions of this crate.
+pub mod Nullable
 pub mod Walk
 pub mod Words

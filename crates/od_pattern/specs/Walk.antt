@@ -7,12 +7,12 @@ use Rattle.od_pattern.specs.declared.constraint_walks.Frame.{Frame}
 use Rattle.od_pattern.specs.declared.constraint_walks.Frame.TheVariants as frame
 
 -- how many parts a constraint has
-abbrev pub weight : Constraint → ℕ
-weight Any = 1
-weight (Is f v) = 1
-weight (Not' s (more_of-Constraint c end_of-Constraint)) = 1 + weight c
-weight (And' s (more_of-Constraint a end_of-Constraint) q (more_of-Constraint b end_of-Constraint)) = 2 + weight a + weight b
-weight (Or' s (more_of-Constraint a end_of-Constraint) q (more_of-Constraint b end_of-Constraint)) = 2 + weight a + weight b
+abbrev pub parts_in : Constraint → ℕ
+parts_in Any = 1
+parts_in (Is f v) = 1
+parts_in (Not' s (more_of-Constraint c end_of-Constraint)) = 1 + parts_in c
+parts_in (And' s (more_of-Constraint a end_of-Constraint) q (more_of-Constraint b end_of-Constraint)) = 2 + parts_in a + parts_in b
+parts_in (Or' s (more_of-Constraint a end_of-Constraint) q (more_of-Constraint b end_of-Constraint)) = 2 + parts_in a + parts_in b
 
 -- a frame around a constraint
 abbrev pub around : Frame → Constraint → Constraint
@@ -30,8 +30,8 @@ plugged (f ∷ frames) c = around f (plugged frames c)
 -- the work that a frame stands for
 abbrev pub cost : Frame → ℕ
 cost frame.Not = 1
-cost (frame.AndRight right) = 1 + weight right.now
-cost (frame.OrRight right) = 1 + weight right.now
+cost (frame.AndRight right) = 1 + parts_in right.now
+cost (frame.OrRight right) = 1 + parts_in right.now
 cost (frame.AndLeft left) = 1
 cost (frame.OrLeft left) = 1
 

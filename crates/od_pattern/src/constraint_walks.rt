@@ -1,6 +1,6 @@
 //! Copies and comparisons of constraints, which may be thousands deep to the left: no call is made for that depth.
 ghost use Rattle.std.specs.Prelude.{◌≡◌, ◌↔◌, ◌+◌, ◌<◌, ◌++◌, [], ◌∷◌, IfOk, OnOk, IsTrue, MatchResult};
-ghost use Rattle.od_pattern.specs.Walk.{plugged, around, cost, total, weight};
+ghost use Rattle.od_pattern.specs.Walk.{plugged, around, cost, total, parts_in};
 ghost use Rattle.od_pattern.specs.declared.pattern.Constraint.TheVariants as constraint;
 
 use crate::pattern::{Constraint, Field, Value};
@@ -66,14 +66,14 @@ fn boxed(alloc: Global, c: Constraint) -> Result<Boxed<Constraint>, NoMemory>
 }
 
 /// A copy of the leftmost part of a constraint; what stands around it goes onto the frames.
-#[tactic(auto, using(crate::proofs::Walks::plugged_more, crate::proofs::Walks::total_more, crate::proofs::Walks::weight_not, crate::proofs::Walks::weight_and, crate::proofs::Walks::weight_or))]
+#[tactic(auto, using(crate::proofs::Walks::plugged_more, crate::proofs::Walks::total_more, crate::proofs::Walks::parts_in_not, crate::proofs::Walks::parts_in_and, crate::proofs::Walks::parts_in_or))]
 fn leftmost<'a>(
     alloc: Global,
     frames: &mut Vec<Frame<'a>>,
     whole: &'a Constraint,
 ) -> Result<Constraint, NoMemory>
     ensures plugged { IfOk result (λ made. plugged frames.new.items made ≡ plugged frames.old.items whole.now) }
-    ensures less { OnOk result (total frames.new.items < total frames.old.items + weight whole.now) }
+    ensures less { OnOk result (total frames.new.items < total frames.old.items + parts_in whole.now) }
 {
     let mut at = whole;
     loop {

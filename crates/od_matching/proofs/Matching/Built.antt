@@ -1,13 +1,13 @@
 -- What patterns mean that are built from their parts: the rows of a match become lists again.
 use Rattle.std.proofs.Common.{◌≡◌, ℕ, suc, false, List, [], ◌∷◌, refl, ◌∙◌, ap}
-use Rattle.std.specs.Prelude.{not, ◌&&◌, ◌||◌, Option, length}
+use Rattle.std.specs.Prelude.{not, ◌&&◌, ◌||◌, Option}
 use mathlib.Core.Former.{Count}
 use denote.Hole.Carrier.{hidden}
-use Rattle.od_matching.specs.Matching.Holds.{holds}
-use Rattle.od_matching.specs.Matching.Choice.{Relation, Stays, Never, Then, Choose, Or, Named}
+use Rattle.od_asked.specs.Holds.{holds}
+use Rattle.od_matching.specs.Matching.Choice.{Relation, Stays, Never, Then, Choose, Either, Named}
 use Rattle.od_matching.specs.Matching.First.{Trial, first_never, first_then, first_or, first_named}
 use Rattle.od_matching.specs.Matching.Derives.{World, derives, in_order, one_of, first, first_order, first_of, turns_from, first_turns}
-use Rattle.od_matching.specs.Matching.Reach.{Set, reached, reached_on, reached_by, repeated}
+use Rattle.od_matching.specs.Matching.Reach.{Set, nodes, reached, reached_on, reached_by, repeated}
 use Rattle.od_document.specs.declared.sentence.Sentence.{Sentence}
 use Rattle.od_pattern.specs.declared.path.Path as path
 use Rattle.od_pattern.specs.declared.path.Path.{Path, Row_of-Path, end_of-Path, more_of-Path, items-the_row-Path, items_hidden-the_row-Path-0}
@@ -48,7 +48,7 @@ module _ (w : World) where
   -- one of the parts of a list, the first of which has the number k
   abbrev pub derives_one : ℕ → List Surface → Relation
   derives_one k [] = Never
-  derives_one k (p ∷ ps) = Or (Choose k (derives w p)) (derives_one (suc k) ps)
+  derives_one k (p ∷ ps) = Either (Choose k (derives w p)) (derives_one (suc k) ps)
 
   -- the preferred way through the parts of a list one after another
   abbrev pub first_in_order : List Surface → Trial
@@ -69,7 +69,7 @@ module _ (w : World) where
   one_of-row : (k : ℕ) (n : _) (row : Row_of-Surface n) → one_of w k row ≡ derives_one k (items-the_row-Surface n row)
   unfolding one_of
   one_of-row k n end_of-Surface = refl
-  one_of-row k n (more_of-Surface p rest) = ap (Or (Choose k (derives w p))) (one_of-row (suc k) _ rest)
+  one_of-row k n (more_of-Surface p rest) = ap (Either (Choose k (derives w p))) (one_of-row (suc k) _ rest)
 
   first_order-row : (n : _) (row : Row_of-Surface n) → first_order w row ≡ first_in_order (items-the_row-Surface n row)
   unfolding first_order
@@ -152,6 +152,6 @@ module _ (s : Sentence) where
   reached_alt ps marked b = let row = path_row_of (path.Seq ps) in reached_by-row row.0 row.1 marked b ∙ ap (λ z. reached_one z marked b) (items_hidden-the_row-Path-0 ps)
 
   pub reached_repeat : (p : Path) (least : ℕ) (most : Option ℕ) (marked : Set) (b : ℕ)
-      → reached s (path.Repeat p least most) marked b ≡ repeated (length s.tokens) (reached s p) least most marked b
+      → reached s (path.Repeat p least most) marked b ≡ repeated (nodes s) (reached s p) least most marked b
   unfolding reached hidden hidden-the_row-Path-1
   reached_repeat p least most marked b = refl

@@ -2,7 +2,7 @@
 use Rattle.std.proofs.Common.{◌≡◌, ℕ, suc, ◌-◌, ◌<◌, ◌≤◌, Bool, true, false, List, ◌∷◌, ◌++◌, refl, sym, ◌∙◌, subst, inl, inr, arith}
 use Rattle.std.proofs.lemmas.Bool.{ltb-true, leb-true, le-leb}
 use Rattle.std.specs.Prelude.{Option, Some, None, if◌then◌else◌, nat_lt, nat_le, ◌&&◌, ◌==◌}
-use Rattle.od_matching.specs.Matching.Choice.{Capture, Relation, Before, Choose, Times, Further, Endless}
+use Rattle.od_matching.specs.Matching.Choice.{Relation, Before, Choose, Times, Further, Endless}
 use Rattle.od_matching.specs.Matching.First.{Ending, Continuation, Trial, first_further, first_endless}
 use Rattle.od_matching.specs.Matching.Derives.{World, looks, fits_token, turns_from, first_turns, derives, in_order, one_of, first, first_order, first_of}
 use Rattle.od_matching.proofs.Matching.Unambiguous.{IsUnambiguous, Agree, agree-Stays, agree-One, agree-Test, agree-Jump, agree-Never, agree-Then, agree-Choose, agree-Or, agree-Named, agree-Times, agree-Further, agree-Endless}
@@ -10,10 +10,11 @@ use Rattle.od_matching.proofs.Matching.Preferred.{IsFirst, Firsts, Within, Order
 use Rattle.od_pattern.specs.declared.pattern.Constraint.{Constraint}
 use Rattle.od_pattern.specs.declared.pattern.Surface.{Surface, Row_of-Surface, end_of-Surface, more_of-Surface}
 use Rattle.od_pattern.specs.declared.pattern.Surface.TheVariants.{Token, Label, Look, First, Last, Seq', Alt', Repeat', Capture'}
+use Rattle.od_extraction.specs.declared.mention.Part.{Part}
 
 -- each list of choices begins with a number from k on
 abbrev Above : ℕ → Relation → Type 0
-Above k A = (i j : ℕ) (c : List Capture) (t : List ℕ) → A i j c t → (x : ℕ) × (v : List ℕ) × (t ≡ x ∷ v) × (k ≤ x)
+Above k A = (i j : ℕ) (c : List Part) (t : List ℕ) → A i j c t → (x : ℕ) × (v : List ℕ) × (t ≡ x ∷ v) × (k ≤ x)
 
 left_of : (a b : Bool) → (a && b) ≡ true → a ≡ true
 left_of true b e = refl

@@ -4,7 +4,7 @@ use Rattle.std.proofs.lemmas.Bool.{eqb-true}
 use Rattle.std.proofs.lemmas.List.{append-nil}
 use Rattle.std.specs.Prelude.{◌&&◌, ◌||◌, ◌==◌, if◌then◌else◌, map, fold}
 use Rattle.od_matching.specs.Matching.Derives.{World}
-use Rattle.od_matching.specs.Matching.Scan.{Match, Scans, scan_of, world_in}
+use Rattle.od_matching.specs.Matching.Scan.{Scans, scan_of, world_in}
 use Rattle.od_extraction.specs.Mentions.{same_mention, is_among, with_new, distinct}
 use Rattle.od_matching.specs.Matching.Rules.{mention_at, labelled, mentions, rule_mentions}
 use Rattle.od_matching.proofs.Matching.Rules.{of_one_part}
@@ -15,6 +15,7 @@ use Rattle.od_extraction.specs.declared.mention.Mention.{Mention}
 use Rattle.od_pattern.specs.declared.pattern.Surface.{Surface}
 use Rattle.od_pattern.specs.declared.rule.Rule.{Rule}
 use Rattle.od_pattern.specs.declared.rule.Body.TheVariants.{Basic}
+use Rattle.od_extraction.specs.declared.mention.Match.{Match}
 
 -- each mention begins before place i
 abbrev pub BeginBefore : ℕ → List Mention → Type 0
@@ -63,12 +64,12 @@ module _ (r : Rule) (d k : ℕ) where
   later_new w p i [] seen s b = sym (append-nil seen)
   later_new w p i (m ∷ ms) seen (next, rest) b =
       let new : Mention = mention_at r d k m in
-      let before : BeginBefore m.start seen = BeginBefore-later i m.start seen next.from b in
-      let after : BeginBefore m.end (seen ++ new ∷ []) =
-      let takes : m.start < m.end = next.takes in
-      BeginBefore-snoc m.end seen new (BeginBefore-later m.start m.end seen (omega arith) before) takes in
+      let before : BeginBefore m.span.start seen = BeginBefore-later i m.span.start seen next.from b in
+      let after : BeginBefore m.span.end (seen ++ new ∷ []) =
+      let takes : m.span.start < m.span.end = next.takes in
+      BeginBefore-snoc m.span.end seen new (BeginBefore-later m.span.start m.span.end seen (omega arith) before) takes in
       ap (λ (z : List Mention). fold with_new z (map (mention_at r d k) ms)) (with_new-later seen new before)
-      ∙ later_new w p m.end ms (seen ++ new ∷ []) rest after
+      ∙ later_new w p m.span.end ms (seen ++ new ∷ []) rest after
       ∙ append_assoc seen (new ∷ []) (map (mention_at r d k) ms)
 
   -- the mentions of a scan are without repeats

@@ -2,7 +2,7 @@
 use Rattle.std.proofs.Common.{◌≡◌, ℕ, zero, suc, ◌-◌, ◌≤◌, Bool, List, [], Option, Some, None, sym, subst, inl, inr, arith}
 use Rattle.std.specs.Prelude.{◌==◌}
 use Rattle.od_text.specs.Lists.{Each}
-use Rattle.od_matching.specs.Matching.Choice.{Capture, Relation, Stays, One, Test, Jump, Never, Then, Choose, Or, Took, Named, Times, another, stop, Further, Exactly, Endless}
+use Rattle.od_matching.specs.Matching.Choice.{Relation, Stays, OneToken, Test, Jump, Never, Then, Choose, Either, Took, Named, Times, another, stop, Further, Exactly, Endless}
 use Rattle.od_matching.specs.Matching.Derives.{World, looks, fits_token, turns_from, derives, in_order, one_of}
 use Rattle.od_matching.specs.Matching.Laws.{IsInside}
 use Rattle.od_text.proofs.Lists.{Each-append, Each-weaker}
@@ -10,19 +10,20 @@ use Rattle.od_matching.proofs.Matching.Preferred.{Within, within-Took, within-Ti
 use Rattle.od_matching.proofs.Matching.Derived.{within, within-in_order}
 use Rattle.od_pattern.specs.declared.pattern.Surface.{Surface, Row_of-Surface, end_of-Surface, more_of-Surface}
 use Rattle.od_pattern.specs.declared.pattern.Surface.TheVariants.{Token, Label, Look, First, Last, Seq', Alt', Repeat', Capture'}
+use Rattle.od_extraction.specs.declared.mention.Part.{Part}
 
 -- each capture of a derivation from within so many tokens lies within what the derivation takes
 abbrev pub Encloses : ℕ → Relation → Type 0
-Encloses l A = (i j : ℕ) (c : List Capture) (t : List ℕ) → i ≤ l → A i j c t → Each (IsInside i j) c
+Encloses l A = (i j : ℕ) (c : List Part) (t : List ℕ) → i ≤ l → A i j c t → Each (IsInside i j) c
 
 -- where there is no capture
-no_capture : (i j : ℕ) (c : List Capture) → c ≡ [] → Each (IsInside i j) c
+no_capture : (i j : ℕ) (c : List Part) → c ≡ [] → Each (IsInside i j) c
 no_capture i j c e = subst (Each (IsInside i j)) (sym e) tt
 
 encloses-Stays : (l : ℕ) → Encloses l Stays
 encloses-Stays l i j c t h d = no_capture i j c d.captures
 
-encloses-One : (l : ℕ) (f : ℕ → Bool) → Encloses l (One f)
+encloses-One : (l : ℕ) (f : ℕ → Bool) → Encloses l (OneToken f)
 encloses-One l f i j c t h d = no_capture i j c d.captures
 
 encloses-Test : (l : ℕ) (f : ℕ → Bool) → Encloses l (Test f)
@@ -35,7 +36,7 @@ encloses-Never : (l : ℕ) → Encloses l Never
 encloses-Never l i j c t h d = absurd d
 
 -- what lies inside a span lies inside a wider one
-wider : (i i' j j' : ℕ) → i ≤ i' → j' ≤ j → (c : List Capture) → Each (IsInside i' j') c → Each (IsInside i j) c
+wider : (i i' j j' : ℕ) → i ≤ i' → j' ≤ j → (c : List Part) → Each (IsInside i' j') c → Each (IsInside i j) c
 wider i i' j j' h k c inside =
     Each-weaker (IsInside i' j') (IsInside i j) (λ x w. let a : i' ≤ x.start = w.0 in let b : x.end ≤ j' = w.2 in (omega arith, w.1, omega arith)) c inside
 
@@ -50,7 +51,7 @@ encloses-Then l A B wa wb ea eb i j c t h d =
 encloses-Choose : (l n : ℕ) (A : Relation) → Encloses l A → Encloses l (Choose n A)
 encloses-Choose l n A ea i j c t h d = ea i j c d.later h d.goes
 
-encloses-Or : (l : ℕ) (A B : Relation) → Encloses l A → Encloses l B → Encloses l (Or A B)
+encloses-Or : (l : ℕ) (A B : Relation) → Encloses l A → Encloses l B → Encloses l (Either A B)
 encloses-Or l A B ea eb i j c t h (inl d) = ea i j c t h d
 encloses-Or l A B ea eb i j c t h (inr d) = eb i j c t h d
 

@@ -3,10 +3,10 @@ use Rattle.std.proofs.Common.{◌≡◌, ℕ, List, [], ◌∷◌, refl, lit<, l
 use Rattle.std.proofs.lemmas.List.Elements.{All-nil}
 use Rattle.std.specs.Prelude.{Bool, true, false, codes, Some, None}
 use denote.Hole.Carrier.{hidden}
-use Rattle.od_matching.specs.Matching.Choice.{Capture}
-use Rattle.od_matching.specs.Matching.Holds.{holds}
+use Rattle.od_matching.specs.Matching.Choice.{capture}
+use Rattle.od_asked.specs.Holds.{holds}
 use Rattle.od_matching.specs.Matching.Derives.{first}
-use Rattle.od_matching.specs.Matching.Scan.{Match, scan_from, scan_of}
+use Rattle.od_matching.specs.Matching.Scan.{match_of, scan_from, scan_of}
 use Rattle.od_document.specs.declared.token.Token.{Token}
 use Rattle.od_document.specs.declared.sentence.Sentence.{Sentence}
 use Rattle.od_extraction.specs.declared.mention.Labelled.{Labelled}
@@ -16,6 +16,8 @@ use Rattle.od_pattern.specs.declared.pattern.Constraint as constraint
 use Rattle.od_pattern.specs.declared.pattern.Surface as surface
 use Rattle.od_pattern.specs.declared.pattern.Surface.{Surface}
 use Rattle.od_pattern.specs.declared.pattern.Surface.TheBlock.{hidden-the_row-Surface-0, hidden-the_row-Surface-1}
+use Rattle.od_extraction.specs.declared.mention.Part.{Part}
+use Rattle.od_extraction.specs.declared.mention.Match.{Match}
 
 -- a token with a norm and a tag
 abbrev word : List ℕ → List ℕ → Token
@@ -39,11 +41,11 @@ endless least lazy p = surface.Repeat p (record { least = least; most = None; la
 abbrev any_lazy : Surface
 any_lazy = endless 0 true (surface.Token constraint.Any)
 
-abbrev match : ℕ → ℕ → List Capture → Match
-match i j captures = record { start = i; end = j; captures = captures }
+abbrev match : ℕ → ℕ → List Part → Match
+match i j captures = match_of i j captures
 
-abbrev x_at : ℕ → ℕ → List Capture
-x_at i j = (record { name = codes "x"; start = i; end = j }) ∷ []
+abbrev x_at : ℕ → ℕ → List Part
+x_at i j = capture (codes "x") i j ∷ []
 
 -- `[]*? (?<x>[tag=NN]+)` on NN NN NN
 greedy_capture : scan_of (surface.Seq (any_lazy ∷ surface.Capture (codes "x") (endless 1 false (tag (codes "NN"))) ∷ [])) (tagged (codes "NN") (codes "NN") (codes "NN")) []
@@ -97,7 +99,7 @@ last_part_empty = refl
 
 -- a capture in a repeat stands once for each turn, and an outer one before those inside it
 one_each_turn : scan_of (surface.Capture (codes "x") (endless 1 false (surface.Capture (codes "y") (plain (codes "a"))))) a_a_b []
-    ≡ match 0 2 ((record { name = codes "x"; start = 0; end = 2 }) ∷ (record { name = codes "y"; start = 0; end = 1 }) ∷ (record { name = codes "y"; start = 1; end = 2 }) ∷ []) ∷ []
+    ≡ match 0 2 (capture (codes "x") 0 2 ∷ capture (codes "y") 0 1 ∷ capture (codes "y") 1 2 ∷ []) ∷ []
 unfolding scan_of scan_from first holds hidden hidden-the_row-Surface-0 hidden-the_row-Surface-1
 one_each_turn = refl
 

@@ -2,21 +2,16 @@
 use Rattle.std.proofs.Common.{◌≡◌, ℕ, zero, suc, ◌+◌, ◌-◌, ◌<◌, ◌≤◌, Bool, true, false, List, [], ◌∷◌, ◌++◌, length, map, fold, Option, Some, None, refl, subst, arith, if◌then◌else◌}
 use Rattle.std.specs.List.{range_with_len}
 use Rattle.od_text.specs.Lists.{Each}
-use Rattle.od_matching.specs.Matching.Choice.{Capture}
-use Rattle.od_matching.specs.Matching.Derives.{World}
-use Rattle.od_matching.specs.Matching.Laws.{IsInside}
 use Rattle.od_matching.specs.Matching.Reach.{Set, reached}
-use Rattle.od_matching.specs.Matching.Scan.{Match, Scans, scan_of, world_in}
-use Rattle.od_matching.specs.Matching.Hops.{between, pair, led_to, next_list, lists_from, hop_lists, last_of, hop_count}
-use Rattle.od_matching.specs.Matching.Candidates.{span, spans, candidates_in, candidates_of, part_at, each_alone, options_of, options_at}
-use Rattle.od_matching.specs.Matching.Events.{products, plain_part, event_at, events_at, event_mentions, event_count}
+use Rattle.od_matching.specs.Matching.Scan.{scan_of}
+use Rattle.od_matching.specs.Matching.Hops.{between, most_found, pair_of, led_to, next_list, lists_from, hop_lists, last_of, hop_count}
+use Rattle.od_matching.specs.Matching.Candidates.{span, spans, candidates_in, candidates_of, candidates_at, part_at, each_alone, options_of, options_with}
+use Rattle.od_matching.specs.Matching.Events.{products, mention_of, mentions_at, event_mentions, event_count}
 use Rattle.od_extraction.specs.Mentions.{is_among, with_new, distinct}
-use Rattle.od_matching.specs.Matching.Rules.{mentions, outcome, labelled, mention_of, mention_at, body_outcome, rule_mentions}
-use Rattle.od_extraction.specs.Spans.{PartLiesWithin, LiesWithin}
+use Rattle.od_matching.specs.Matching.Rules.{mentions, outcome_of, labelled, mention_at, body_outcome, rule_mentions}
+use Rattle.od_extraction.specs.Spans.{PartLiesWithin, MatchLiesWithin, LiesWithin}
 use Rattle.od_text.proofs.Lists.{Each-append, Each-weaker, Each-map, Each-flat_map, Each-filter}
-use Rattle.od_matching.proofs.Matching.Derived.{within}
-use Rattle.od_matching.proofs.Matching.Enclosed.{encloses}
-use Rattle.od_matching.proofs.Matching.Scans.{scans_of}
+use Rattle.od_matching.proofs.Matching.Apart.{apart-lie, scan-apart}
 use Rattle.od_document.specs.declared.sentence.Sentence.{Sentence}
 use Rattle.od_extraction.specs.declared.mention.Labelled.{Labelled}
 use Rattle.od_extraction.specs.declared.mention.Mention.{Mention}
@@ -32,49 +27,29 @@ use Rattle.od_pattern.specs.declared.rule.HopPart.{HopPart}
 use Rattle.od_pattern.specs.declared.rule.Many.{Many}
 use Rattle.od_pattern.specs.declared.rule.Many.TheVariants.{One, Optional, All, AllOne}
 use Rattle.od_pattern.specs.declared.rule.Rule.{Rule}
-
--- a capture lies within so many tokens
-abbrev CaptureLies : ℕ → Capture → Type 0
-CaptureLies n x = (x.start ≤ x.end) × (x.end ≤ n)
-
--- a match takes at least one of so many tokens, and its captures lie within them
-record MatchLies (n : ℕ) (m : Match) : Type 0 where
-  takes : m.start < m.end
-  ends : m.end ≤ n
-  captures : Each (CaptureLies n) m.captures
+use Rattle.od_extraction.specs.declared.mention.Match.{Match}
 
 -- ## Matches
 
-matches-lie : (w : World) (p : Surface) (i : ℕ) (ms : List Match) → Scans w p i ms → Each (MatchLies w.length) ms
-matches-lie w p i [] s = tt
-matches-lie w p i (m ∷ ms) (next, rest) =
-    let begins : m.start < w.length = next.inside in
-    let from : m.start ≤ w.length = omega arith in
-    let goes = next.best.goes in
-    let ends = within w p m.start m.end m.captures next.best.choices from goes in
-    let inside = encloses w p m.start m.end m.captures next.best.choices from goes in
-    let weaker : (x : Capture) → IsInside m.start m.end x → CaptureLies w.length x = λ x k. let a : x.end ≤ m.end = k.2 in let b : m.end ≤ w.length = ends.1 in (k.1, omega arith) in
-    (record { takes = next.takes; ends = ends.1; captures = Each-weaker (IsInside m.start m.end) (CaptureLies w.length) weaker m.captures inside }, matches-lie w p m.end ms rest)
-
 module _ (s : Sentence) (labels : List Labelled) where
-  scan-lies : (p : Surface) → Each (MatchLies (length s.tokens)) (scan_of p s labels)
-  scan-lies p = matches-lie (world_in s labels) p 0 (scan_of p s labels) (scans_of p s labels)
+  scan-lies : (p : Surface) → Each (MatchLiesWithin (length s.tokens)) (scan_of p s labels)
+  scan-lies p = apart-lie (length s.tokens) 0 (scan_of p s labels) (scan-apart p s labels)
 
   -- ## Hops
 
   abbrev Lie : List Match → Type 0
-  Lie list = Each (MatchLies (length s.tokens)) list
+  Lie list = Each (MatchLiesWithin (length s.tokens)) list
 
-  pair-lies : (a : Match) → MatchLies (length s.tokens) a → (b : Match) → MatchLies (length s.tokens) b → MatchLies (length s.tokens) (pair a b)
-  pair-lies a h b k = record { takes = k.takes; ends = k.ends; captures = Each-append (CaptureLies (length s.tokens)) a.captures b.captures h.captures k.captures }
+  pair-lies : (a : Match) → MatchLiesWithin (length s.tokens) a → (b : Match) → MatchLiesWithin (length s.tokens) b → MatchLiesWithin (length s.tokens) (pair_of a b)
+  pair-lies a h b k = record { takes = k.takes; ends = k.ends; captures = Each-append (PartLiesWithin (length s.tokens)) a.captures b.captures h.captures k.captures }
 
   next-lies : (part : HopPart) (list : List Match) → Lie list → Lie (next_list s part.path (scan_of part.surface s labels) list)
   next-lies part list h =
       let found = scan_of part.surface s labels in
-      let led : (a : Match) → MatchLies (length s.tokens) a → Lie (led_to s part.path found a) = λ a k.
-      Each-map (MatchLies (length s.tokens)) (pair a) _
-      (Each-weaker (MatchLies (length s.tokens)) (λ b. MatchLies (length s.tokens) (pair a b)) (pair-lies a k) _ (Each-filter (MatchLies (length s.tokens)) _ found (scan-lies part.surface))) in
-      Each-flat_map (MatchLies (length s.tokens)) (led_to s part.path found) list (Each-weaker (MatchLies (length s.tokens)) (λ a. Lie (led_to s part.path found a)) led list h)
+      let led : (a : Match) → MatchLiesWithin (length s.tokens) a → Lie (led_to s part.path found a) = λ a k.
+      Each-map (MatchLiesWithin (length s.tokens)) (pair_of a) _
+      (Each-weaker (MatchLiesWithin (length s.tokens)) (λ b. MatchLiesWithin (length s.tokens) (pair_of a b)) (pair-lies a k) _ (Each-filter (MatchLiesWithin (length s.tokens)) _ found (scan-lies part.surface))) in
+      Each-flat_map (MatchLiesWithin (length s.tokens)) (led_to s part.path found) list (Each-weaker (MatchLiesWithin (length s.tokens)) (λ a. Lie (led_to s part.path found a)) led list h)
 
   lists-lie : (list : List Match) (rest : List HopPart) → Lie list → Each Lie (lists_from s labels list rest)
   lists-lie list [] h = (h, tt)
@@ -133,9 +108,9 @@ module _ (s : Sentence) (labels : List Labelled) where
   options-lie AllOne a [] h = tt
   options-lie AllOne a (c ∷ found) h = (together-lie a (c ∷ found) h, tt)
 
-  all-options-lie : (t : Match) (arguments : List Argument) → Each (Each PartsLie) (options_at s labels arguments t)
+  all-options-lie : (t : Match) (arguments : List Argument) → Each (Each PartsLie) (options_with arguments (candidates_at s labels arguments t))
   all-options-lie t [] = tt
-  all-options-lie t (a ∷ arguments) = (options-lie a.many a (candidates_of s labels t a) (candidates-lie a.label (reached s a.path (between t.start t.end))), all-options-lie t arguments)
+  all-options-lie t (a ∷ arguments) = (options-lie a.many a (candidates_of s labels t a) (candidates-lie a.label (reached s a.path (between t.span.start t.span.end))), all-options-lie t arguments)
 
   products-lie : (options : List (List (List Part))) → Each (Each PartsLie) options → Each PartsLie (products options)
   products-lie [] h = (tt, tt)
@@ -155,14 +130,14 @@ pub record LiesAt (d k n : ℕ) (m : Mention) : Type 0 where
 
 module _ (r : Rule) (d k : ℕ) (s : Sentence) (labels : List Labelled) where
   -- a mention with the span of a match, its captures and further parts
-  event-lies : (t : Match) → MatchLies (length s.tokens) t → (parts : List Part) → PartsLie s labels parts → LiesAt d k (length s.tokens) (mention_of r d k (event_at t parts))
+  event-lies : (t : Match) → MatchLiesWithin (length s.tokens) t → (parts : List Part) → PartsLie s labels parts → LiesAt d k (length s.tokens) (mention_of r d k t parts)
   event-lies t h parts w = record {
     document_is = refl;
     sentence_is = refl;
     lies = record {
       takes = h.takes;
       ends = h.ends;
-      parts = Each-append (PartLiesWithin (length s.tokens)) (map plain_part t.captures) parts (Each-map (PartLiesWithin (length s.tokens)) plain_part t.captures h.captures) w;
+      parts = Each-append (PartLiesWithin (length s.tokens)) t.captures parts h.captures w;
     };
   }
 
@@ -182,27 +157,27 @@ module _ (r : Rule) (d k : ℕ) (s : Sentence) (labels : List Labelled) where
       let lists = hop_lists h s labels in
       let last = last-lies s labels lists (lists-lie s labels (scan_of h.first s labels) h.rest (scan-lies s labels h.first)) in
       folded-lie [] (map (mention_at r d k) (last_of lists)) tt
-      (Each-map (LiesAt d k (length s.tokens)) (mention_at r d k) (last_of lists) (Each-weaker (MatchLies (length s.tokens)) (λ m. LiesAt d k (length s.tokens) (mention_at r d k m)) (λ m w. event-lies m w [] tt) (last_of lists) last))
+      (Each-map (LiesAt d k (length s.tokens)) (mention_at r d k) (last_of lists) (Each-weaker (MatchLiesWithin (length s.tokens)) (λ m. LiesAt d k (length s.tokens) (mention_at r d k m)) (λ m w. event-lies m w [] tt) (last_of lists) last))
 
-  events-lie : (e : EventRule) → MentionsLie (map (mention_of r d k) (event_mentions e s labels))
+  events-lie : (e : EventRule) → MentionsLie (event_mentions r d k e s labels)
   events-lie e =
       let triggers = scan_of e.trigger s labels in
-      let at : (t : Match) → MatchLies (length s.tokens) t → Each (λ v. LiesAt d k (length s.tokens) (mention_of r d k v)) (events_at s labels e.arguments t) = λ t h.
-      Each-map (λ v. LiesAt d k (length s.tokens) (mention_of r d k v)) (event_at t) (products (options_at s labels e.arguments t))
-      (Each-weaker (PartsLie s labels) (λ parts. LiesAt d k (length s.tokens) (mention_of r d k (event_at t parts))) (event-lies t h) (products (options_at s labels e.arguments t))
-      (products-lie s labels (options_at s labels e.arguments t) (all-options-lie s labels t e.arguments))) in
-      Each-map (LiesAt d k (length s.tokens)) (mention_of r d k) (event_mentions e s labels)
-      (Each-flat_map (λ v. LiesAt d k (length s.tokens) (mention_of r d k v)) (events_at s labels e.arguments) triggers
-      (Each-weaker (MatchLies (length s.tokens)) (λ t. Each (λ v. LiesAt d k (length s.tokens) (mention_of r d k v)) (events_at s labels e.arguments t)) at triggers (scan-lies s labels e.trigger)))
+      let at : (t : Match) → MatchLiesWithin (length s.tokens) t → MentionsLie (mentions_at r d k s labels e.arguments t) = λ t h.
+      let options = options_with e.arguments (candidates_at s labels e.arguments t) in
+      Each-map (LiesAt d k (length s.tokens)) (mention_of r d k t) (products options)
+      (Each-weaker (PartsLie s labels) (λ parts. LiesAt d k (length s.tokens) (mention_of r d k t parts)) (event-lies t h) (products options)
+      (products-lie s labels options (all-options-lie s labels t e.arguments))) in
+      Each-flat_map (LiesAt d k (length s.tokens)) (mentions_at r d k s labels e.arguments) triggers
+      (Each-weaker (MatchLiesWithin (length s.tokens)) (λ t. MentionsLie (mentions_at r d k s labels e.arguments t)) at triggers (scan-lies s labels e.trigger))
 
   -- where there are not too many
-  outcome-lies : (count : Option ℕ) (found ms : List Mention) → outcome count found ≡ mentions ms → MentionsLie found → MentionsLie ms
+  outcome-lies : (count : Option ℕ) (found ms : List Mention) → outcome_of count found ≡ mentions ms → MentionsLie found → MentionsLie ms
   outcome-lies None found ms e h = let same : found ≡ ms = cc in subst MentionsLie same h
   outcome-lies (Some count) found ms e h = absurd (cc)
 
   body-lies : (body : Body) (ms : List Mention) → body_outcome r d k s labels body ≡ mentions ms → MentionsLie ms
-  body-lies (Basic h) ms e = outcome-lies (hop_count (hop_lists h s labels)) (distinct (map (mention_at r d k) (last_of (hop_lists h s labels)))) ms e (hop-lies h)
-  body-lies (EventBody v) ms e = outcome-lies (event_count v s labels) (map (mention_of r d k) (event_mentions v s labels)) ms e (events-lie v)
+  body-lies (Basic h) ms e = outcome-lies (hop_count most_found (hop_lists h s labels)) (distinct (map (mention_at r d k) (last_of (hop_lists h s labels)))) ms e (hop-lies h)
+  body-lies (EventBody v) ms e = outcome-lies (event_count most_found v s labels) (event_mentions r d k v s labels) ms e (events-lie v)
 
 -- what a rule finds lies in the sentence
 pub rule-lies : (r : Rule) (d k : ℕ) (s : Sentence) (state ms : List Mention) → rule_mentions r d k s state ≡ mentions ms → Each (LiesAt d k (length s.tokens)) ms

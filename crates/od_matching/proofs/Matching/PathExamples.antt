@@ -5,12 +5,13 @@ use Rattle.std.specs.List.{AllByRecursion}
 use Rattle.std.specs.Prelude.{Bool, true, false, ◌==◌, ◌<◌, codes, Option, Some, None}
 use denote.Hole.Carrier.{hidden}
 use Rattle.od_document.specs.Edges.{EndsWithin}
-use Rattle.od_matching.specs.Matching.Holds.{holds}
+use Rattle.od_matching.specs.Matching.Choice.{capture}
+use Rattle.od_asked.specs.Holds.{holds}
 use Rattle.od_matching.specs.Matching.Derives.{first}
 use Rattle.od_matching.specs.Matching.Reach.{reached}
-use Rattle.od_matching.specs.Matching.Scan.{Match, scan_from, scan_of}
-use Rattle.od_matching.specs.Matching.Hops.{hop_lists, last_of, hop_count}
-use Rattle.od_matching.specs.Matching.Events.{Event, over, product, running, event_mentions, event_count}
+use Rattle.od_matching.specs.Matching.Scan.{match_of, scan_from, scan_of}
+use Rattle.od_matching.specs.Matching.Hops.{most_found, hop_lists, last_of, hop_count}
+use Rattle.od_matching.specs.Matching.Events.{over, product, running, event_mentions, event_count}
 use Rattle.od_document.specs.declared.token.Token.{Token}
 use Rattle.od_document.specs.declared.token.Edge.{Edge}
 use Rattle.od_document.specs.declared.sentence.Sentence.{Sentence}
@@ -29,7 +30,11 @@ use Rattle.od_pattern.specs.declared.rule.Hop.{Hop}
 use Rattle.od_pattern.specs.declared.rule.Many.{Many}
 use Rattle.od_pattern.specs.declared.rule.Many.TheVariants.{One, Optional, All, AllOne}
 use Rattle.od_pattern.specs.declared.rule.Argument.{Argument}
+use Rattle.od_pattern.specs.declared.rule.Body.TheVariants as body
 use Rattle.od_pattern.specs.declared.rule.EventRule.{EventRule}
+use Rattle.od_pattern.specs.declared.rule.Rule.{Rule}
+use Rattle.od_extraction.specs.declared.mention.Mention.{Mention}
+use Rattle.od_extraction.specs.declared.mention.Match.{Match}
 
 -- a token with a lemma and a tag
 abbrev word : List ℕ → List ℕ → Token
@@ -137,14 +142,14 @@ who_bought_what = record {
 }
 
 abbrev bought : ℕ → ℕ → Match
-bought s o = record { start = o; end = o + 1; captures = record { name = codes "s"; start = s; end = s + 1 } ∷ record { name = codes "o"; start = o; end = o + 1 } ∷ [] }
+bought s o = match_of o (o + 1) (capture (codes "s") s (s + 1) ∷ capture (codes "o") o (o + 1) ∷ [])
 
 -- each pair has the later span, and the captures of both
 pairs_of_a_hop : last_of (hop_lists who_bought_what deal []) ≡ bought 0 4 ∷ bought 0 6 ∷ bought 2 4 ∷ bought 2 6 ∷ []
 unfolding scan_of scan_from first holds reached hidden hidden-the_row-Surface-0 hidden-the_row-Surface-1 hidden-the_row-Path-0 hidden-the_row-Path-1
 pairs_of_a_hop = refl
 
-few_pairs : hop_count (hop_lists who_bought_what deal []) ≡ None
+few_pairs : hop_count most_found (hop_lists who_bought_what deal []) ≡ None
 unfolding scan_of scan_from first holds reached hidden hidden-the_row-Surface-0 hidden-the_row-Surface-1 hidden-the_row-Path-0 hidden-the_row-Path-1
 few_pairs = refl
 
@@ -165,19 +170,26 @@ purchase = record {
 abbrev part : List ℕ → Option (List ℕ) → ℕ → ℕ → Part
 part name label start end = record { name = name; label = label; start = start; end = end }
 
-abbrev purchased : ℕ → ℕ → Event
-purchased buyer thing = record {
-  start = 3;
-  end = 4;
-  parts = part (codes "buyer") None buyer (buyer + 1) ∷ part (codes "thing") None thing (thing + 1) ∷ part (codes "every") None 4 5 ∷ part (codes "every") None 6 7 ∷ [];
-}
+-- a rule of this kind, and what it finds in the sentence
+abbrev rule_of : EventRule → Rule
+rule_of e = record { name = codes "deal"; label = codes "Deal"; priority = record { first = 1; last = None }; body = body.Event e }
+
+abbrev mentions_by : EventRule → Sentence → List Labelled → List Mention
+mentions_by e s m = event_mentions (rule_of e) 0 5 e s m
+
+-- its mention of the trigger with these arguments
+abbrev found : List Part → Mention
+found parts = record { document = 0; sentence = 5; start = 3; end = 4; label = codes "Deal"; rule = codes "deal"; parts = parts }
+
+abbrev purchased : ℕ → ℕ → Mention
+purchased buyer thing = found (part (codes "buyer") None buyer (buyer + 1) ∷ part (codes "thing") None thing (thing + 1) ∷ part (codes "every") None 4 5 ∷ part (codes "every") None 6 7 ∷ [])
 
 -- the first argument varies slowest; where there is no place, it is absent
-four_purchases : event_mentions purchase deal [] ≡ purchased 0 4 ∷ purchased 0 6 ∷ purchased 2 4 ∷ purchased 2 6 ∷ []
+four_purchases : mentions_by purchase deal [] ≡ purchased 0 4 ∷ purchased 0 6 ∷ purchased 2 4 ∷ purchased 2 6 ∷ []
 unfolding scan_of scan_from first holds reached hidden hidden-the_row-Surface-0 hidden-the_row-Surface-1 hidden-the_row-Path-0 hidden-the_row-Path-1
 four_purchases = refl
 
-few_purchases : event_count purchase deal [] ≡ None
+few_purchases : event_count most_found purchase deal [] ≡ None
 unfolding scan_of scan_from first holds reached hidden hidden-the_row-Surface-0 hidden-the_row-Surface-1 hidden-the_row-Path-0 hidden-the_row-Path-1
 few_purchases = refl
 
@@ -185,26 +197,26 @@ few_purchases = refl
 abbrev placed : Many → EventRule
 placed many = record { trigger = buy; arguments = argument (codes "place") None many (codes "obl") ∷ [] }
 
-one_is_missing : event_mentions (placed One) deal [] ≡ []
+one_is_missing : mentions_by (placed One) deal [] ≡ []
 unfolding scan_of scan_from first holds reached hidden hidden-the_row-Surface-0 hidden-the_row-Surface-1 hidden-the_row-Path-0 hidden-the_row-Path-1
 one_is_missing = refl
 
-all_are_missing : event_mentions (placed AllOne) deal [] ≡ []
+all_are_missing : mentions_by (placed AllOne) deal [] ≡ []
 unfolding scan_of scan_from first holds reached hidden hidden-the_row-Surface-0 hidden-the_row-Surface-1 hidden-the_row-Path-0 hidden-the_row-Path-1
 all_are_missing = refl
 
-none_is_needed : event_mentions (placed All) deal [] ≡ record { start = 3; end = 4; parts = [] } ∷ []
+none_is_needed : mentions_by (placed All) deal [] ≡ found [] ∷ []
 unfolding scan_of scan_from first holds reached hidden hidden-the_row-Surface-0 hidden-the_row-Surface-1 hidden-the_row-Path-0 hidden-the_row-Path-1
 none_is_needed = refl
 
 abbrev group : ℕ → ℕ → Labelled
 group start end = record { label = codes "Group"; span = record { start = start; end = end } }
 
-abbrev grouped : ℕ → ℕ → Event
-grouped start end = record { start = 3; end = 4; parts = part (codes "who") (Some (codes "Group")) start end ∷ [] }
+abbrev grouped : ℕ → ℕ → Mention
+grouped start end = found (part (codes "who") (Some (codes "Group")) start end ∷ [])
 
 -- `who:Group = >nsubj`: the spans with this label that have a reached token, each once, by start and then by end
-by_label : event_mentions (record { trigger = buy; arguments = argument (codes "who") (Some (codes "Group")) One (codes "nsubj") ∷ [] }) deal
+by_label : mentions_by (record { trigger = buy; arguments = argument (codes "who") (Some (codes "Group")) One (codes "nsubj") ∷ [] }) deal
     (group 2 3 ∷ group 4 7 ∷ group 0 3 ∷ group 0 1 ∷ group 2 3 ∷ []) ≡ grouped 0 1 ∷ grouped 0 3 ∷ grouped 2 3 ∷ []
 unfolding scan_of scan_from first holds reached hidden hidden-the_row-Surface-0 hidden-the_row-Surface-1 hidden-the_row-Path-0 hidden-the_row-Path-1
 by_label = refl
@@ -212,15 +224,15 @@ by_label = refl
 -- ## Counts
 
 -- arguments of 100 and 100 candidates are not too many, and 100 and 101 are
-as_many_as_may_be : running 0 1 (100 ∷ 100 ∷ []) ≡ product 10000
+as_many_as_may_be : running most_found 0 1 (100 ∷ 100 ∷ []) ≡ product 10000
 as_many_as_may_be = refl
 
-one_too_many : running 0 1 (100 ∷ 101 ∷ []) ≡ over 10100
+one_too_many : running most_found 0 1 (100 ∷ 101 ∷ []) ≡ over 10100
 one_too_many = refl
 
 -- the count may pass the most within a product, and with the first value of one
-within_a_product : running 0 1 (101 ∷ 100 ∷ 2 ∷ []) ≡ over 10100
+within_a_product : running most_found 0 1 (101 ∷ 100 ∷ 2 ∷ []) ≡ over 10100
 within_a_product = refl
 
-at_the_most : running 10000 1 [] ≡ over 10001
+at_the_most : running most_found 10000 1 [] ≡ over 10001
 at_the_most = refl

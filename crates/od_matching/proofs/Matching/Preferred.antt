@@ -5,24 +5,25 @@ use Rattle.std.proofs.Math.Nat.{le-suc_iff}
 use Rattle.std.proofs.lemmas.Bool.{ltb-true, lt-ltb}
 use Rattle.std.specs.Prelude.{Option, Some, None, if◌then◌else◌, nat_lt, option_map}
 use Rattle.std.specs.Option.{option_or}
-use Rattle.od_matching.specs.Matching.Choice.{Capture, Relation, Before, Stays, One, Test, Jump, Never, Then, Choose, Or, Took, Named, Times, another, stop, Further, Exactly, Endless}
+use Rattle.od_matching.specs.Matching.Choice.{capture, Relation, Before, Stays, OneToken, Test, Jump, Never, Then, Choose, Either, Took, Named, Times, another, stop, Further, Exactly, Endless}
 use Rattle.od_matching.specs.Matching.First.{Ending, Continuation, Trial, add, close, open_capture, first_one, first_test, first_down, first_jump, first_never, first_then, first_took, first_named, first_times, prefer, first_further, first_endless}
 use Rattle.od_matching.proofs.Matching.Unambiguous.{Same, IsUnambiguous, agree-Took}
+use Rattle.od_extraction.specs.declared.mention.Part.{Part}
 
 -- a way of A from i, on which the rest goes on, and before which nothing does
 pub record Preferred (A : Relation) (k : Continuation) (i : ℕ) (o : Ending) : Type 0 where
   pub end : ℕ
-  pub captures : List Capture
+  pub captures : List Part
   pub choices : List ℕ
   pub rest : Ending
   pub goes : A i end captures choices
   pub on : k end ≡ Some rest
   pub whole : o ≡ add captures rest
-  pub least : (j : ℕ) (c : List Capture) (t : List ℕ) → A i j c t → Before t choices → k j ≡ None
+  pub least : (j : ℕ) (c : List Part) (t : List ℕ) → A i j c t → Before t choices → k j ≡ None
 
 -- what a trial answers: the preferred way, or that no way of A goes on
 abbrev pub IsFirst : Relation → Continuation → ℕ → Option Ending → Type 0
-IsFirst A k i None = (j : ℕ) (c : List Capture) (t : List ℕ) → A i j c t → k j ≡ None
+IsFirst A k i None = (j : ℕ) (c : List Part) (t : List ℕ) → A i j c t → k j ≡ None
 IsFirst A k i (Some o) = Preferred A k i o
 
 -- the trial f answers with the preferred way of A, whatever follows
@@ -31,7 +32,7 @@ Firsts l A f = (k : Continuation) (i : ℕ) → i ≤ l → IsFirst A k i (f k i
 
 -- it goes forward, and stays within the sentence
 abbrev pub Within : ℕ → Relation → Type 0
-Within l A = (i j : ℕ) (c : List Capture) (t : List ℕ) → i ≤ l → A i j c t → (i ≤ j) × (j ≤ l)
+Within l A = (i j : ℕ) (c : List Part) (t : List ℕ) → i ≤ l → A i j c t → (i ≤ j) × (j ≤ l)
 
 none_some : {A : Type 0} {o : Ending} {x : Option Ending} → x ≡ Some o → x ≡ None → A
 none_some e f = cc
@@ -71,7 +72,7 @@ pub first-Stays : (l : ℕ) → Firsts l Stays (λ k i. k i)
 first-Stays l k i h = stays_first k i (k i) refl
 
 -- a token, by whether it passes and what follows it
-one_first : (f : ℕ → Bool) (k : Continuation) (i : ℕ) (b : Bool) (x : Option Ending) → f i ≡ b → k (i + 1) ≡ x → IsFirst (One f) k i (if b then x else None)
+one_first : (f : ℕ → Bool) (k : Continuation) (i : ℕ) (b : Bool) (x : Option Ending) → f i ≡ b → k (i + 1) ≡ x → IsFirst (OneToken f) k i (if b then x else None)
 one_first f k i false x e h = λ j c t d. absurd (let p : false ≡ true = sym e ∙ d.passes in cc)
 one_first f k i true None e h = λ j c t d. ap k d.ends ∙ h
 one_first f k i true (Some o) e h = record {
@@ -85,7 +86,7 @@ one_first f k i true (Some o) e h = record {
   least = λ j c t d g. absurd (before_nil t g);
 }
 
-pub first-One : (l : ℕ) (f : ℕ → Bool) → Firsts l (One f) (first_one f)
+pub first-One : (l : ℕ) (f : ℕ → Bool) → Firsts l (OneToken f) (first_one f)
 first-One l f k i h = one_first f k i (f i) (k (i + 1)) refl refl
 
 -- a test of the place, in the same way
@@ -112,7 +113,7 @@ first-Never l k i h = λ j c t d. absurd d
 -- one after the other
 module _ (l : ℕ) (A B : Relation) (g : Trial) (la : IsUnambiguous A) (wa : Within l A) (fb : Firsts l B g) where
   -- nothing of A goes on with B where no way of B goes on
-  blocked : (k : Continuation) (m : ℕ) → m ≤ l → g k m ≡ None → (j : ℕ) (c : List Capture) (t : List ℕ) → B m j c t → k j ≡ None
+  blocked : (k : Continuation) (m : ℕ) → m ≤ l → g k m ≡ None → (j : ℕ) (c : List Part) (t : List ℕ) → B m j c t → k j ≡ None
   blocked k m h e j c t d = let f : IsFirst B k m None = subst (IsFirst B k m) e (fb k m h) in f j c t d
 
   -- the preferred way of B from where a way of A ends
@@ -125,8 +126,8 @@ module _ (l : ℕ) (A B : Relation) (g : Trial) (la : IsUnambiguous A) (wa : Wit
   then_first k i (Some o) h a =
       let b : Preferred B k a.end a.rest = after k a.end a.rest (wa i a.end a.captures a.choices h a.goes).1 a.on in
       let w : o ≡ add (a.captures ++ b.captures) b.rest =
-      a.whole ∙ ap (add a.captures) b.whole ∙ ap (λ (z : List Capture). record { end = b.rest.end; captures = z; ends = b.rest.ends }) (sym (append_assoc a.captures b.captures b.rest.captures)) in
-      let at_least : (j : ℕ) (c : List Capture) (t : List ℕ) → Then A B i j c t → Before t (a.choices ++ b.choices) → k j ≡ None = λ j c t d q.
+      a.whole ∙ ap (add a.captures) b.whole ∙ ap (λ (z : List Part). record { end = b.rest.end; captures = z; ends = b.rest.ends }) (sym (append_assoc a.captures b.captures b.rest.captures)) in
+      let at_least : (j : ℕ) (c : List Part) (t : List ℕ) → Then A B i j c t → Before t (a.choices ++ b.choices) → k j ≡ None = λ j c t d q.
       let q' : Before (d.t1 ++ d.t2) (a.choices ++ b.choices) = subst (λ (z : List ℕ). Before z (a.choices ++ b.choices)) d.choices q in
       elim (before_split a.choices d.t1 b.choices d.t2 q') [
         | inl lt ↦ blocked k d.mid (wa i d.mid d.c1 d.t1 h d.left).1 (a.least d.mid d.c1 d.t1 d.left lt) j d.c2 d.t2 d.right
@@ -150,8 +151,8 @@ module _ (l : ℕ) (A B : Relation) (g : Trial) (la : IsUnambiguous A) (wa : Wit
   first-Then f fa k i h = then_first k i (f (g k) i) h (fa (g k) i h)
 
 -- a relation that says the same
-pub first_along : (A B : Relation) (k : Continuation) (i : ℕ) (x : Option Ending) → ((j : ℕ) (c : List Capture) (t : List ℕ) → A i j c t → B i j c t)
-    → ((j : ℕ) (c : List Capture) (t : List ℕ) → B i j c t → A i j c t) → IsFirst A k i x → IsFirst B k i x
+pub first_along : (A B : Relation) (k : Continuation) (i : ℕ) (x : Option Ending) → ((j : ℕ) (c : List Part) (t : List ℕ) → A i j c t → B i j c t)
+    → ((j : ℕ) (c : List Part) (t : List ℕ) → B i j c t → A i j c t) → IsFirst A k i x → IsFirst B k i x
 first_along A B k i None to from f = λ j c t d. f j c t (from j c t d)
 first_along A B k i (Some o) to from a = record {
   end = a.end;
@@ -182,7 +183,7 @@ choose_first n A k i (Some o) a = record {
 
 -- no way of B comes before one of A
 abbrev pub Order : Relation → Relation → ℕ → Type 0
-Order A B i = (j j' : ℕ) (c c' : List Capture) (t t' : List ℕ) → A i j c t → B i j' c' t' → Before t' t → ⊥
+Order A B i = (j j' : ℕ) (c c' : List Part) (t t' : List ℕ) → A i j c t → B i j' c' t' → Before t' t → ⊥
 
 pub order-Choose : (n m : ℕ) (A B : Relation) (i : ℕ) → n < m → Order (Choose n A) (Choose m B) i
 order-Choose n m A B i lt j j' c c' t t' d d' q =
@@ -191,7 +192,7 @@ order-Choose n m A B i lt j j' c c' t t' d d' q =
     elim q' [ inl h ↦ absurd (omega arith) | inr (e, h) ↦ absurd (omega arith) ]
 
 -- the preferred way of A, and else that of B, where no choice of B comes before one of A
-pub or_first : (A B : Relation) (k : Continuation) (i : ℕ) (x y : Option Ending) → Order A B i → IsFirst A k i x → IsFirst B k i y → IsFirst (Or A B) k i (option_or x y)
+pub or_first : (A B : Relation) (k : Continuation) (i : ℕ) (x y : Option Ending) → Order A B i → IsFirst A k i x → IsFirst B k i y → IsFirst (Either A B) k i (option_or x y)
 or_first A B k i None None order f g = λ j c t d. elim d [ inl a ↦ f j c t a | inr b ↦ g j c t b ]
 or_first A B k i None (Some o) order f b = record {
   end = b.end;
@@ -255,7 +256,7 @@ named_first name A k i (Some o) a =
     let w : o ≡ add a.captures (close a.end h.0) = a.whole ∙ ap (add a.captures) h.2 in
     record {
       end = a.end;
-      captures = (record { name = name; start = i; end = a.end }) ∷ a.captures;
+      captures = capture name i a.end ∷ a.captures;
       choices = a.choices;
       rest = h.0;
       goes = record { inner = a.captures; captures = refl; goes = a.goes };
@@ -269,7 +270,7 @@ pub within-Stays : (l : ℕ) → Within l Stays
 within-Stays l i j c t h d = let e : j ≡ i = d.ends in (omega arith, omega arith)
 
 -- the same of the other relations
-pub within-One : (l : ℕ) (f : ℕ → Bool) → ((i : ℕ) → f i ≡ true → i < l) → Within l (One f)
+pub within-One : (l : ℕ) (f : ℕ → Bool) → ((i : ℕ) → f i ≡ true → i < l) → Within l (OneToken f)
 within-One l f inside i j c t h d = let e : j ≡ i + 1 = d.ends in let lt : i < l = inside i d.passes in (omega arith, omega arith)
 
 pub within-Test : (l : ℕ) (f : ℕ → Bool) → Within l (Test f)
@@ -290,7 +291,7 @@ within-Then l A B wa wb i j c t h d =
 pub within-Choose : (l n : ℕ) (A : Relation) → Within l A → Within l (Choose n A)
 within-Choose l n A wa i j c t h d = wa i j c d.later h d.goes
 
-pub within-Or : (l : ℕ) (A B : Relation) → Within l A → Within l B → Within l (Or A B)
+pub within-Or : (l : ℕ) (A B : Relation) → Within l A → Within l B → Within l (Either A B)
 within-Or l A B wa wb i j c t h (inl d) = wa i j c t h d
 within-Or l A B wa wb i j c t h (inr d) = wb i j c t h d
 
@@ -329,12 +330,12 @@ pub first-Named : (l : ℕ) (name : List ℕ) (A : Relation) (f : Trial) → Fir
 first-Named l name A f fa k i h = named_first name A k i _ (fa (λ j. option_map (close j) (k j)) i h)
 
 -- the order of the two sides does not matter to what is preferred
-swapped : (A B : Relation) (k : Continuation) (i : ℕ) (x : Option Ending) → IsFirst (Or B A) k i x → IsFirst (Or A B) k i x
-swapped A B k i x f = first_along (Or B A) (Or A B) k i x (λ j c t d. elim d [ inl a ↦ inr a | inr b ↦ inl b ]) (λ j c t d. elim d [ inl a ↦ inr a | inr b ↦ inl b ]) f
+swapped : (A B : Relation) (k : Continuation) (i : ℕ) (x : Option Ending) → IsFirst (Either B A) k i x → IsFirst (Either A B) k i x
+swapped A B k i x f = first_along (Either B A) (Either A B) k i x (λ j c t d. elim d [ inl a ↦ inr a | inr b ↦ inl b ]) (λ j c t d. elim d [ inl a ↦ inr a | inr b ↦ inl b ]) f
 
 -- one more turn, or none
 turn_first : (lazy : Bool) (A : Relation) (k : Continuation) (i : ℕ) (x y : Option Ending) → IsFirst A k i x → IsFirst Stays k i y
-    → IsFirst (Or (Choose (another lazy) A) (Choose (stop lazy) Stays)) k i (prefer lazy x y)
+    → IsFirst (Either (Choose (another lazy) A) (Choose (stop lazy) Stays)) k i (prefer lazy x y)
 turn_first true A k i x y f g =
     swapped (Choose 1 A) (Choose 0 Stays) k i _ (or_first (Choose 0 Stays) (Choose 1 A) k i y x (order-Choose 0 1 Stays A i (omega arith)) (choose_first 0 Stays k i y g) (choose_first 1 A k i x f))
 turn_first false A k i x y f g =
@@ -350,7 +351,7 @@ module _ (l : ℕ) (lazy : Bool) (A : Relation) (f : Trial) (la : IsUnambiguous 
       (first-Stays l k i h)
 
   -- as many turns as there are tokens left are all that there can be
-  to_endless : (n i j : ℕ) (c : List Capture) (t : List ℕ) → i ≤ l → l - i < n → Further lazy A n i j c t → Endless lazy A i j c t
+  to_endless : (n i j : ℕ) (c : List Part) (t : List ℕ) → i ≤ l → l - i < n → Further lazy A n i j c t → Endless lazy A i j c t
   to_endless zero i j c t h lt d = absurd (omega arith)
   to_endless (suc n) i j c t h lt (inr d) = (0, d)
   to_endless (suc n) i j c t h lt (inl d) =
@@ -366,7 +367,7 @@ module _ (l : ℕ) (lazy : Bool) (A : Relation) (f : Trial) (la : IsUnambiguous 
       )
 
   -- any number of turns that each take a token is within that
-  from_exactly : (m n i j : ℕ) (c : List Capture) (t : List ℕ) → i ≤ l → l - i < n → Exactly lazy A m i j c t → Further lazy A n i j c t
+  from_exactly : (m n i j : ℕ) (c : List Part) (t : List ℕ) → i ≤ l → l - i < n → Exactly lazy A m i j c t → Further lazy A n i j c t
   from_exactly m zero i j c t h lt d = absurd (omega arith)
   from_exactly zero (suc n) i j c t h lt d = inr d
   from_exactly (suc m) (suc n) i j c t h lt d =
@@ -424,7 +425,7 @@ module _ (l : ℕ) (f : ℕ → ℕ → Bool) where
   down_first : (k : Continuation) (i n : ℕ) → i + n ≤ l → IsFirst (Upto n) k i (first_down f k i n)
   down_first k i zero h = λ j c t d. absurd (let a : j ≤ i + 0 = d.0 in let b : i < j = d.1.forward in omega arith)
   down_first k i (suc n) h =
-      first_along (Or (At n) (Upto n)) (Upto (suc n)) k i _
+      first_along (Either (At n) (Upto n)) (Upto (suc n)) k i _
       (λ j c t d. elim d [ inl a ↦ ((let e : j ≡ i + suc n = a.0 in omega arith), a.1) | inr b ↦ ((let e : j ≤ i + n = b.0 in omega arith), b.1) ])
       (λ j c t d. (let le : j ≤ i + suc n = d.0 in elim (le-suc_iff.0 (let r : j ≤ suc (i + n) = omega arith in r)) [ inl a ↦ inr (a, d.1) | inr b ↦ inl ((omega arith), d.1) ]))
       (or_first (At n) (Upto n) k i _ _ (order-At n i h) (at_first k i n (f i (i + suc n)) (k (i + suc n)) h refl refl) (down_first k i n (omega arith)))

@@ -2,8 +2,8 @@
 use Rattle.std.proofs.Common.{◌≡◌, ℕ, zero, suc, ◌+◌, ◌-◌, ◌<◌, ◌≤◌, true, false, List, [], ◌∷◌, refl, sym, subst, inl, inr, arith}
 use Rattle.std.proofs.lemmas.Bool.{or_cases, and_parts, and_from, eqb-true, eq-eqb, leb-true, le-leb}
 use Rattle.std.proofs.lemmas.Option.{get_or_from_slice_get, slice_get_within}
-use Rattle.std.specs.Prelude.{◌↔◌, ◌&&◌, ◌==◌, nat_le, length, Option, Some, None, slice_get}
-use Rattle.od_matching.specs.Matching.Reach.{Link, Set, Crosses, Turned, Repeated, fits_any, governor, dependent, holds_there, leads, leads_on, leads_by, cross, turned, spread, repeated, reached, reached_on, reached_by}
+use Rattle.std.specs.Prelude.{◌↔◌, ◌&&◌, ◌==◌, nat_le, Option, Some, None, slice_get}
+use Rattle.od_matching.specs.Matching.Reach.{nodes, Link, Set, Crosses, Turned, Repeated, fits_any, governor, dependent, holds_there, leads, leads_on, leads_by, cross, turned, spread, repeated, reached, reached_on, reached_by}
 use Rattle.od_matching.proofs.Matching.Tests.{or_left, or_right, any_there}
 use Rattle.od_matching.proofs.Matching.Spread.{Under, Sound, Complete, Keeps, under_after, turned_add, keeps_turned, sound-turned, sound-spread, spread_keeps, complete-turned, complete-spread, spread_closed, closed_turns, under_spreads}
 use Rattle.od_document.specs.declared.token.Edge.{Edge}
@@ -84,7 +84,7 @@ module _ (s : Sentence) where
     sound (Filter c) marked b e = let h = and_parts (marked b) (holds_there s c b) e in (b, h.0, (h.1, refl))
     sound (Seq' v row) marked b e = sound_on row marked b e
     sound (Alt' v row) marked b e = sound_by row marked b e
-    sound (Repeat' v (more_of-Path p end_of-Path) least most) marked b e = sound-repeated (length s.tokens) (reached s p) (leads s p) (sound p) least most marked b e
+    sound (Repeat' v (more_of-Path p end_of-Path) least most) marked b e = sound-repeated (nodes s) (reached s p) (leads s p) (sound p) least most marked b e
 
     sound_on : {m : _} (row : Row_of-Path m) → Sound (reached_on s row) (leads_on s row)
     sound_on end_of-Path marked b e = (b, e, refl)
@@ -102,9 +102,9 @@ module _ (s : Sentence) where
         ]
 
 -- an edge of the sentence lies between two of its tokens
-edge_ends : (s : Sentence) (i : ℕ) (edge : Edge) → slice_get s.edges i ≡ Some edge → (edge.governor < length s.tokens) × (edge.dependent < length s.tokens)
+edge_ends : (s : Sentence) (i : ℕ) (edge : Edge) → slice_get s.edges i ≡ Some edge → (edge.governor < nodes s) × (edge.dependent < nodes s)
 edge_ends s i edge e =
-    let lies : (edge' : Edge) → Type 0 = λ edge'. (edge'.governor < length s.tokens) × (edge'.dependent < length s.tokens) in
+    let lies : (edge' : Edge) → Type 0 = λ edge'. (edge'.governor < nodes s) × (edge'.dependent < nodes s) in
     subst lies (get_or_from_slice_get s.edges i edge edge e) (s.ends i edge (slice_get_within s.edges i edge e))
 
 module _ (s : Sentence) where
@@ -112,19 +112,19 @@ module _ (s : Sentence) where
     unfolding leads leads_on leads_by
 
     -- a path leads from a token of the sentence to a token of it
-    pub keeps : (p : Path) → Keeps (length s.tokens) (leads s p)
-    keeps (Along value) a b h t = let r = edge_ends s t.place t.edge t.is_there in subst (λ (z : ℕ). z < length s.tokens) t.ends r.1
-    keeps (Against value) a b h t = let r = edge_ends s t.place t.edge t.is_there in subst (λ (z : ℕ). z < length s.tokens) t.ends r.0
+    pub keeps : (p : Path) → Keeps (nodes s) (leads s p)
+    keeps (Along value) a b h t = let r = edge_ends s t.place t.edge t.is_there in subst (λ (z : ℕ). z < nodes s) t.ends r.1
+    keeps (Against value) a b h t = let r = edge_ends s t.place t.edge t.is_there in subst (λ (z : ℕ). z < nodes s) t.ends r.0
     keeps (Filter c) a b h t = let e : b ≡ a = t.1 in omega arith
     keeps (Seq' v row) a b h t = keeps_on row a b h t
     keeps (Alt' v row) a b h t = keeps_by row a b h t
-    keeps (Repeat' v (more_of-Path p end_of-Path) least most) a b h t = keeps_turned (length s.tokens) (leads s p) (keeps p) t.0 a b h t.3
+    keeps (Repeat' v (more_of-Path p end_of-Path) least most) a b h t = keeps_turned (nodes s) (leads s p) (keeps p) t.0 a b h t.3
 
-    keeps_on : {m : _} (row : Row_of-Path m) → Keeps (length s.tokens) (leads_on s row)
+    keeps_on : {m : _} (row : Row_of-Path m) → Keeps (nodes s) (leads_on s row)
     keeps_on end_of-Path a b h t = let e : b ≡ a = t in omega arith
     keeps_on (more_of-Path p rest) a b h t = keeps_on rest t.0 b (keeps p a t.0 h t.1) t.2
 
-    keeps_by : {m : _} (row : Row_of-Path m) → Keeps (length s.tokens) (leads_by s row)
+    keeps_by : {m : _} (row : Row_of-Path m) → Keeps (nodes s) (leads_by s row)
     keeps_by end_of-Path a b h t = absurd t
     keeps_by (more_of-Path p rest) a b h (inl t) = keeps p a b h t
     keeps_by (more_of-Path p rest) a b h (inr t) = keeps_by rest a b h t
@@ -133,27 +133,27 @@ module _ (s : Sentence) where
     unfolding leads leads_on leads_by reached reached_on reached_by
 
     -- what is led to is reached
-    pub complete : (p : Path) → Complete (length s.tokens) (reached s p) (leads s p)
-    complete (Along value) marked a b under e t = complete-cross governor dependent value (length s.tokens) s.edges marked a b under e t
-    complete (Against value) marked a b under e t = complete-cross dependent governor value (length s.tokens) s.edges marked a b under e t
+    pub complete : (p : Path) → Complete (nodes s) (reached s p) (leads s p)
+    complete (Along value) marked a b under e t = complete-cross governor dependent value (nodes s) s.edges marked a b under e t
+    complete (Against value) marked a b under e t = complete-cross dependent governor value (nodes s) s.edges marked a b under e t
     complete (Filter c) marked a b under e t =
         let same : b ≡ a = t.1 in
         and_from _ _ (subst (λ (z : ℕ). marked z ≡ true) (sym same) e) (subst (λ (z : ℕ). holds_there s c z ≡ true) (sym same) t.0)
     complete (Seq' v row) marked a b under e t = complete_on row marked a b under e t
     complete (Alt' v row) marked a b under e t = complete_by row marked a b under e t
     complete (Repeat' v (more_of-Path p end_of-Path) least most) marked a b under e t =
-        complete-repeated (length s.tokens) (reached s p) (leads s p) (sound s p) (complete p) (keeps p) least most marked a b under e t
+        complete-repeated (nodes s) (reached s p) (leads s p) (sound s p) (complete p) (keeps p) least most marked a b under e t
 
-    complete_on : {m : _} (row : Row_of-Path m) → Complete (length s.tokens) (reached_on s row) (leads_on s row)
+    complete_on : {m : _} (row : Row_of-Path m) → Complete (nodes s) (reached_on s row) (leads_on s row)
     complete_on end_of-Path marked a b under e t = let same : b ≡ a = t in subst (λ (z : ℕ). marked z ≡ true) (sym same) e
     complete_on (more_of-Path p rest) marked a b under e t =
-        complete_on rest (reached s p marked) t.0 b (under_after (length s.tokens) (reached s p) (leads s p) (sound s p) (keeps p) marked under) (complete p marked a t.0 under e t.1) t.2
+        complete_on rest (reached s p marked) t.0 b (under_after (nodes s) (reached s p) (leads s p) (sound s p) (keeps p) marked under) (complete p marked a t.0 under e t.1) t.2
 
-    complete_by : {m : _} (row : Row_of-Path m) → Complete (length s.tokens) (reached_by s row) (leads_by s row)
+    complete_by : {m : _} (row : Row_of-Path m) → Complete (nodes s) (reached_by s row) (leads_by s row)
     complete_by end_of-Path marked a b under e t = absurd t
     complete_by (more_of-Path p rest) marked a b under e (inl t) = or_left (reached s p marked b) (reached_by s rest marked b) (complete p marked a b under e t)
     complete_by (more_of-Path p rest) marked a b under e (inr t) = or_right (reached s p marked b) (reached_by s rest marked b) (complete_by rest marked a b under e t)
 
 -- from the tokens of a set a path leads to exactly those that are computed
-pub reached_from : (s : Sentence) (p : Path) (marked : Set) (b : ℕ) → Under (length s.tokens) marked → (reached s p marked b ≡ true) ↔ ((a : ℕ) × (marked a ≡ true) × leads s p a b)
+pub reached_from : (s : Sentence) (p : Path) (marked : Set) (b : ℕ) → Under (nodes s) marked → (reached s p marked b ≡ true) ↔ ((a : ℕ) × (marked a ≡ true) × leads s p a b)
 reached_from s p marked b under = (sound s p marked b, λ r. complete s p marked r.0 b under r.1 r.2)

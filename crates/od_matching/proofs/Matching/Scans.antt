@@ -3,16 +3,18 @@ use Rattle.std.proofs.Common.{◌≡◌, ℕ, zero, suc, ◌+◌, ◌<◌, ◌�
 use Rattle.std.proofs.lemmas.List.{append-nil}
 use Rattle.std.proofs.lemmas.Bool.{cases_lt, ltb-true, ltb-false}
 use Rattle.std.specs.Prelude.{Option, Some, None, nat_lt, if◌then◌else◌, length}
-use Rattle.od_matching.specs.Matching.Choice.{Capture, Before}
+use Rattle.od_matching.specs.Matching.Choice.{Before}
 use Rattle.od_matching.specs.Matching.First.{Ending, accept, add}
 use Rattle.od_matching.specs.Matching.Derives.{World, derives, first}
-use Rattle.od_matching.specs.Matching.Scan.{IsBest, Match, NoMatchAt, IsNext, Scans, take_or_go, scan_from, scan_of, world_in}
+use Rattle.od_matching.specs.Matching.Scan.{IsBest, NoMatchAt, IsNext, Scans, match_of, take_or_go, scan_from, scan_of, world_in}
 use Rattle.od_matching.proofs.Matching.Unambiguous.{Same}
 use Rattle.od_matching.proofs.Matching.Preferred as preferred
 use Rattle.od_matching.proofs.Matching.Derived.{unambiguous, within, firsts}
 use Rattle.od_document.specs.declared.sentence.Sentence.{Sentence}
 use Rattle.od_extraction.specs.declared.mention.Labelled.{Labelled}
 use Rattle.od_pattern.specs.declared.pattern.Surface.{Surface}
+use Rattle.od_extraction.specs.declared.mention.Part.{Part}
+use Rattle.od_extraction.specs.declared.mention.Match.{Match}
 
 -- where nothing follows, a way ends where it is
 accept_some : (j : ℕ) (o : Ending) → accept j ≡ Some o → o ≡ record { end = j; captures = []; ends = [] }
@@ -31,15 +33,24 @@ best_of w p i o h e =
     let captures : b.captures ≡ o.captures = sym (append-nil b.captures) ∙ sym (ap (λ (z : Ending). z.captures) whole) in
     record {
       choices = b.choices;
-      goes = subst (λ (z : ℕ). derives w p i z o.captures b.choices) end (subst (λ (z : List Capture). derives w p i b.end z b.choices) captures b.goes);
+      goes = subst (λ (z : ℕ). derives w p i z o.captures b.choices) end (subst (λ (z : List Part). derives w p i b.end z b.choices) captures b.goes);
       least = λ j c t d q. accept_none j (b.least j c t d q);
     }
 
 -- where none is computed there is no derivation
-pub none_of : (w : World) (p : Surface) (i : ℕ) → i ≤ w.length → first w p accept i ≡ None → (j : ℕ) (c : List Capture) (t : List ℕ) → derives w p i j c t → ⊥
+pub none_of : (w : World) (p : Surface) (i : ℕ) → i ≤ w.length → first w p accept i ≡ None → (j : ℕ) (c : List Part) (t : List ℕ) → derives w p i j c t → ⊥
 none_of w p i h e j c t d =
     let g : preferred.IsFirst (derives w p) accept i None = subst (preferred.IsFirst (derives w p) accept i) e (firsts w p accept i h) in
     accept_none j (g j c t d)
+
+-- so where there is a derivation there is a best one
+pub best_exists : (w : World) (p : Surface) (i j : ℕ) (c : List Part) (t : List ℕ) → i ≤ w.length → derives w p i j c t
+    → (j' : ℕ) × (c' : List Part) × IsBest w p i j' c'
+best_exists w p i j c t h d = told (first w p accept i) refl
+  where
+    told : (o : Option Ending) → first w p accept i ≡ o → (j' : ℕ) × (c' : List Part) × IsBest w p i j' c'
+    told None e = absurd (none_of w p i h e j c t d)
+    told (Some o) e = (o.end, o.captures, best_of w p i o h e)
 
 -- one of two lists comes first, or they are the same
 before_total : (s t : List ℕ) → (Before s t → ⊥) → (Before t s → ⊥) → s ≡ t
@@ -60,7 +71,7 @@ before_total (x ∷ s) (y ∷ t) h g =
     ]
 
 -- there is at most one best way
-pub one_best : (w : World) (p : Surface) (i j j' : ℕ) (c c' : List Capture) → IsBest w p i j c → IsBest w p i j' c' → (j ≡ j') × (c ≡ c')
+pub one_best : (w : World) (p : Surface) (i j j' : ℕ) (c c' : List Part) → IsBest w p i j c → IsBest w p i j' c' → (j ≡ j') × (c ≡ c')
 one_best w p i j j' c c' b b' =
     let e : b.choices ≡ b'.choices = before_total b.choices b'.choices (λ q. b'.least j c b.choices b.goes q) (λ q. b.least j' c' b'.choices b'.goes q) in
     let s : Same j j' c c' b.choices b'.choices [] [] = unambiguous w p i i j j' c c' b.choices b'.choices [] [] refl b.goes b'.goes (ap (λ (z : List ℕ). z ++ []) e) in
@@ -80,7 +91,7 @@ scan_idle w p i [] idle s = λ k le lt.
     elim (cases_lt i k) [ inl h ↦ s k (omega arith) lt | inr h ↦ let e : i ≡ k = omega arith in subst (NoMatchAt w p) e idle ]
 scan_idle w p i (m ∷ ms) idle (next, rest) = (
   record {
-    from = let le : i + 1 ≤ m.start = next.from in omega arith;
+    from = let le : i + 1 ≤ m.span.start = next.from in omega arith;
     inside = next.inside;
     takes = next.takes;
     none_before = λ k le lt. elim (cases_lt i k) [ inl h ↦ next.none_before k (omega arith) lt | inr h ↦ let e : i ≡ k = omega arith in subst (NoMatchAt w p) e idle ];
@@ -91,7 +102,7 @@ scan_idle w p i (m ∷ ms) idle (next, rest) = (
 
 -- a match, and the matches behind it
 pub scan_match : (w : World) (p : Surface) (i : ℕ) (o : Ending) (ms : List Match) → i ≤ w.length → first w p accept i ≡ Some o → i < o.end → Scans w p o.end ms
-    → Scans w p i ((record { start = i; end = o.end; captures = o.captures }) ∷ ms)
+    → Scans w p i (match_of i o.end o.captures ∷ ms)
 scan_match w p i o ms h e lt s =
     let b = best_of w p i o h e in
     let in_reach : o.end ≤ w.length = (within w p i o.end o.captures b.choices h b.goes).1 in
@@ -102,23 +113,23 @@ pub scan_end : (w : World) (p : Surface) (i : ℕ) → w.length ≤ i → Scans 
 scan_end w p i h k le lt = absurd (omega arith)
 
 -- equal choices give an equal end and equal captures
-pub same_choices : (w : World) (p : Surface) (i j j' : ℕ) (c c' : List Capture) (t : List ℕ) → derives w p i j c t → derives w p i j' c' t → (j ≡ j') × (c ≡ c')
+pub same_choices : (w : World) (p : Surface) (i j j' : ℕ) (c c' : List Part) (t : List ℕ) → derives w p i j c t → derives w p i j' c' t → (j ≡ j') × (c ≡ c')
 same_choices w p i j j' c c' t d d' = let s : Same j j' c c' t t [] [] = unambiguous w p i i j j' c c' t t [] [] refl d d' refl in (s.ends, s.captures)
 
 -- and no list of choices is a proper prefix of another's
-pub no_front : (w : World) (p : Surface) (i j j' : ℕ) (c c' : List Capture) (t u : List ℕ) → derives w p i j c t → derives w p i j' c' (t ++ u) → u ≡ []
+pub no_front : (w : World) (p : Surface) (i j j' : ℕ) (c c' : List Part) (t u : List ℕ) → derives w p i j c t → derives w p i j' c' (t ++ u) → u ≡ []
 no_front w p i j j' c c' t u d d' =
     let s : Same j j' c c' t (t ++ u) u [] = unambiguous w p i i j j' c c' t (t ++ u) u [] refl d d' (sym (append-nil (t ++ u))) in
     s.rest
 
 module _ (w : World) (p : Surface) where
-  best_within : (i j : ℕ) (c : List Capture) → i ≤ w.length → IsBest w p i j c → j ≤ w.length
+  best_within : (i j : ℕ) (c : List Part) → i ≤ w.length → IsBest w p i j c → j ≤ w.length
   best_within i j c h b = (within w p i j c b.choices h b.goes).1
 
   module _ (on : ℕ → List Match) (i : ℕ) (lt : i < w.length) (rest : (j : ℕ) → i < j → j ≤ w.length → Scans w p j (on j)) where
     -- by whether the way takes a token
     longer : (o : Ending) (b : Bool) → first w p accept i ≡ Some o → nat_lt i o.end ≡ b
-        → Scans w p i (if b then record { start = i; end = o.end; captures = o.captures } ∷ on o.end else on (i + 1))
+        → Scans w p i (if b then match_of i o.end o.captures ∷ on o.end else on (i + 1))
     longer o true e t =
         let h : i ≤ w.length = omega arith in
         let further : i < o.end = ltb-true i o.end t in
@@ -150,34 +161,33 @@ unfolding scan_of
 scans_of p s m = scans_from (world_in s m) p (length s.tokens) 0 (omega arith)
 
 -- a match where none begins is none
-no_match : (w : World) (p : Surface) (m : Match) (i : ℕ) → IsNext w p i m → NoMatchAt w p m.start → ⊥
+no_match : (w : World) (p : Surface) (m : Match) (i : ℕ) → IsNext w p i m → NoMatchAt w p m.span.start → ⊥
 no_match w p m i next idle =
-    let h : m.end ≤ m.start = idle m.end m.captures next.best in
-    let l : m.start < m.end = next.takes in
+    let h : m.span.end ≤ m.span.start = idle m.span.end m.captures next.best in
+    let l : m.span.start < m.span.end = next.takes in
     omega arith
 
 -- two next matches from one place are the same
 same_next : (w : World) (p : Surface) (i : ℕ) (m n : Match) → IsNext w p i m → IsNext w p i n → m ≡ n
 same_next w p i m n a b =
-    elim (cases_lt m.start n.start) [
-      | inl lt ↦ absurd (no_match w p m i a (b.none_before m.start a.from lt))
+    elim (cases_lt m.span.start n.span.start) [
+      | inl lt ↦ absurd (no_match w p m i a (b.none_before m.span.start a.from lt))
       | inr ge ↦
-          elim (cases_lt n.start m.start) [
-            | inl lt ↦ absurd (no_match w p n i b (a.none_before n.start b.from lt))
+          elim (cases_lt n.span.start m.span.start) [
+            | inl lt ↦ absurd (no_match w p n i b (a.none_before n.span.start b.from lt))
             | inr le ↦
-                let start : n.start ≡ m.start = omega arith in
-                let e = one_best w p m.start m.end n.end m.captures n.captures a.best (subst (λ (z : ℕ). IsBest w p z n.end n.captures) start b.best) in
-                let made : ℕ → ℕ → List Capture → Match = λ x y z. record { start = x; end = y; captures = z } in
-                ap (λ (z : ℕ). made z m.end m.captures) (sym start) ∙ ap (λ (z : ℕ). made n.start z m.captures) e.0 ∙ ap (made n.start n.end) e.1
+                let start : n.span.start ≡ m.span.start = omega arith in
+                let e = one_best w p m.span.start m.span.end n.span.end m.captures n.captures a.best (subst (λ (z : ℕ). IsBest w p z n.span.end n.captures) start b.best) in
+                ap (λ (z : ℕ). match_of z m.span.end m.captures) (sym start) ∙ ap (λ (z : ℕ). match_of n.span.start z m.captures) e.0 ∙ ap (match_of n.span.start n.span.end) e.1
           ]
     ]
 
 -- there is no other list
 pub same_scans : (w : World) (p : Surface) (i : ℕ) (a b : List Match) → Scans w p i a → Scans w p i b → a ≡ b
 same_scans w p i [] [] sa sb = refl
-same_scans w p i [] (n ∷ b) sa (next, rest) = absurd (no_match w p n i next (sa n.start next.from next.inside))
-same_scans w p i (m ∷ a) [] (next, rest) sb = absurd (no_match w p m i next (sb m.start next.from next.inside))
+same_scans w p i [] (n ∷ b) sa (next, rest) = absurd (no_match w p n i next (sa n.span.start next.from next.inside))
+same_scans w p i (m ∷ a) [] (next, rest) sb = absurd (no_match w p m i next (sb m.span.start next.from next.inside))
 same_scans w p i (m ∷ a) (n ∷ b) (next, rest) (next', rest') =
     let head : m ≡ n = same_next w p i m n next next' in
-    let tail : a ≡ b = same_scans w p m.end a b rest (subst (λ (z : Match). Scans w p z.end b) (sym head) rest') in
+    let tail : a ≡ b = same_scans w p m.span.end a b rest (subst (λ (z : Match). Scans w p z.span.end b) (sym head) rest') in
     ap (λ (z : Match). z ∷ a) head ∙ ap (λ (z : List Match). n ∷ z) tail

@@ -3,7 +3,7 @@ use Rattle.std.proofs.Common.{◌≡◌, ℕ, zero, suc, ◌+◌, ◌<◌, ◌�
 use Rattle.std.proofs.lemmas.Bool.{cases_lt, or_cases}
 use mathlib.Core.Path.{fun_ext}
 use Rattle.std.specs.Prelude.{◌||◌, cond}
-use Rattle.od_matching.specs.Matching.Reach.{Link, Set, Turned, either, turned, spread}
+use Rattle.od_matching.specs.Matching.Reach.{Link, Set, Turned, union, turned, spread}
 use Rattle.od_matching.proofs.Matching.Tests.{or_left, or_right}
 
 -- each element is below n
@@ -27,8 +27,8 @@ pub under_after : (n : ℕ) (f : Set → Set) (A : Link) → Sound f A → Keeps
 under_after n f A sound keeps marked under k e =
     let r = sound marked k e in keeps r.0 k (under r.0 r.1) r.2
 
-pub under_either : (n : ℕ) (x y : Set) → Under n x → Under n y → Under n (either x y)
-under_either n x y ux uy k e = elim (or_cases (x k) (y k) e) [ inl h ↦ ux k h | inr h ↦ uy k h ]
+pub under_union : (n : ℕ) (x y : Set) → Under n x → Under n y → Under n (union x y)
+under_union n x y ux uy k e = elim (or_cases (x k) (y k) e) [ inl h ↦ ux k h | inr h ↦ uy k h ]
 
 -- some turns and then some more
 pub turned_add : (A : Link) (m k n : ℕ) (a c b : ℕ) → n ≡ m + k → Turned A m a c → Turned A k c b → Turned A n a b
@@ -56,7 +56,7 @@ module _ (f : Set → Set) (A : Link) (sound : Sound f A) where
   pub sound-spread : (n : ℕ) (marked : Set) (b : ℕ) → spread f n marked b ≡ true → (a : ℕ) × (marked a ≡ true) × (k : ℕ) × (k ≤ n) × Turned A k a b
   sound-spread zero marked b e = (b, e, zero, omega arith, refl)
   sound-spread (suc n) marked b e =
-      let r = sound-spread n (either marked (f marked)) b e in
+      let r = sound-spread n (union marked (f marked)) b e in
       let le : r.2 ≤ n = r.3 in
       elim (or_cases (marked r.0) (f marked r.0) r.1) [
         | inl h ↦ (r.0, h, r.2, omega arith, r.4)
@@ -66,7 +66,7 @@ module _ (f : Set → Set) (A : Link) (sound : Sound f A) where
 -- a spread keeps what it has
 pub spread_keeps : (f : Set → Set) (n : ℕ) (marked : Set) (b : ℕ) → marked b ≡ true → spread f n marked b ≡ true
 spread_keeps f zero marked b e = e
-spread_keeps f (suc n) marked b e = spread_keeps f n (either marked (f marked)) b (or_left (marked b) (f marked b) e)
+spread_keeps f (suc n) marked b e = spread_keeps f n (union marked (f marked)) b (or_left (marked b) (f marked b) e)
 
 module _ (n : ℕ) (f : Set → Set) (A : Link) (sound : Sound f A) (complete : Complete n f A) (keeps : Keeps n A) where
   -- and the other way round
@@ -76,15 +76,15 @@ module _ (n : ℕ) (f : Set → Set) (A : Link) (sound : Sound f A) (complete : 
       complete-turned k (f marked) t.0 b (under_after n f A sound keeps marked under) (complete marked a t.0 under e t.1) t.2
 
   -- one more turn keeps to the sentence
-  under_spread : (marked : Set) → Under n marked → Under n (either marked (f marked))
-  under_spread marked under = under_either n marked (f marked) under (under_after n f A sound keeps marked under)
+  under_spread : (marked : Set) → Under n marked → Under n (union marked (f marked))
+  under_spread marked under = under_union n marked (f marked) under (under_after n f A sound keeps marked under)
 
   -- and the other way round
   pub complete-spread : (m : ℕ) (marked : Set) (a b k : ℕ) → Under n marked → marked a ≡ true → k ≤ m → Turned A k a b → spread f m marked b ≡ true
   complete-spread m marked a b zero under e le t = spread_keeps f m marked b (let same : b ≡ a = t in subst (λ (z : ℕ). marked z ≡ true) (sym same) e)
   complete-spread zero marked a b (suc k) under e le t = absurd (omega arith)
   complete-spread (suc m) marked a b (suc k) under e le t =
-      complete-spread m (either marked (f marked)) t.0 b k (under_spread marked under)
+      complete-spread m (union marked (f marked)) t.0 b k (under_spread marked under)
       (or_right (marked t.0) (f marked t.0) (complete marked a t.0 under e t.1)) (omega arith) t.2
 
 -- how many numbers below n are in the set
@@ -153,7 +153,7 @@ absorbed false true h = sym (h refl)
 absorbed false false h = refl
 
 -- so the union with a turn is the set itself
-closed_same : (f : Set → Set) (marked : Set) → Closed f marked → either marked (f marked) ≡ marked
+closed_same : (f : Set → Set) (marked : Set) → Closed f marked → union marked (f marked) ≡ marked
 closed_same f marked closed = fun_ext (λ b. absorbed (marked b) (f marked b) (closed b))
 
 -- so any number of turns leaves it as it is
@@ -167,9 +167,9 @@ module _ (n : ℕ) (f : Set → Set) (A : Link) (sound : Sound f A) (keeps : Kee
   spread_closed zero marked under le b e =
       count_full n marked (omega arith) b (under_after n f A sound keeps marked under b e)
   spread_closed (suc m) marked under le b e =
-      let both : Set = either marked (f marked) in
+      let both : Set = union marked (f marked) in
       elim (cases_lt (count n marked) (count n both)) [
-        | inl more ↦ spread_closed m both (under_either n marked (f marked) under (under_after n f A sound keeps marked under)) (omega arith) b e
+        | inl more ↦ spread_closed m both (under_union n marked (f marked) under (under_after n f A sound keeps marked under)) (omega arith) b e
         | inr same ↦
             let closed : Closed f marked = λ c h.
             count_same n marked both (λ k q. or_left (marked k) (f marked k) q) same c (under_after n f A sound keeps marked under c h) (or_right (marked c) (f marked c) h) in
@@ -184,4 +184,4 @@ module _ (n : ℕ) (f : Set → Set) (A : Link) (sound : Sound f A) (keeps : Kee
 
   pub under_spreads : (m : ℕ) (marked : Set) → Under n marked → Under n (spread f m marked)
   under_spreads zero marked under = under
-  under_spreads (suc m) marked under = under_spreads m (either marked (f marked)) (under_either n marked (f marked) under (under_after n f A sound keeps marked under))
+  under_spreads (suc m) marked under = under_spreads m (union marked (f marked)) (under_union n marked (f marked) under (under_after n f A sound keeps marked under))

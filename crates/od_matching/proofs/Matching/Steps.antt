@@ -4,11 +4,12 @@ use Rattle.std.proofs.lemmas.Bool.{lt-ltb}
 use Rattle.std.specs.Prelude.{Some, None, nat_lt, if◌then◌else◌}
 use Rattle.od_matching.specs.Matching.First.{Ending, accept}
 use Rattle.od_matching.specs.Matching.Derives.{World, first}
-use Rattle.od_matching.specs.Matching.Scan.{Match, Scans, take_or_go, scan_from, scan_at, scan_of, world_in}
+use Rattle.od_matching.specs.Matching.Scan.{Scans, match_of, take_or_go, scan_from, scan_at, scan_of, world_in}
 use Rattle.od_matching.proofs.Matching.Scans.{scans_from, scans_of, same_scans}
 use Rattle.od_document.specs.declared.sentence.Sentence.{Sentence}
 use Rattle.od_extraction.specs.declared.mention.Labelled.{Labelled}
 use Rattle.od_pattern.specs.declared.pattern.Surface.{Surface}
+use Rattle.od_extraction.specs.declared.mention.Match.{Match}
 
 module _ (w : World) (p : Surface) where
   -- the list from place i on is the list of matches from there on
@@ -38,13 +39,13 @@ module _ (w : World) (p : Surface) where
 
   -- a way that takes a token is a match, behind which the search goes on
   pub scan_at-some : (i : ℕ) (o : Ending) → i < w.length → first w p accept i ≡ Some o → i < o.end
-      → scan_at w p i ≡ record { start = i; end = o.end; captures = o.captures } ∷ scan_at w p o.end
+      → scan_at w p i ≡ match_of i o.end o.captures ∷ scan_at w p o.end
   scan_at-some i o h e lt =
       sym (scan_enough (suc (w.length - i)) i (omega arith))
       ∙ stepped i (w.length - i) _ refl (lt-ltb i w.length h)
       ∙ ap (take_or_go (scan_from w p (w.length - i)) i) e
-      ∙ ap (λ (z : Bool). if z then record { start = i; end = o.end; captures = o.captures } ∷ scan_from w p (w.length - i) o.end else scan_from w p (w.length - i) (i + 1)) (lt-ltb i o.end lt)
-      ∙ ap (λ (z : List Match). record { start = i; end = o.end; captures = o.captures } ∷ z) (scan_enough (w.length - i) o.end (omega arith))
+      ∙ ap (λ (z : Bool). if z then match_of i o.end o.captures ∷ scan_from w p (w.length - i) o.end else scan_from w p (w.length - i) (i + 1)) (lt-ltb i o.end lt)
+      ∙ ap (λ (z : List Match). match_of i o.end o.captures ∷ z) (scan_enough (w.length - i) o.end (omega arith))
 
 -- the whole list is the list from the first place on
 pub scan_of-start : (p : Surface) (s : Sentence) (labels : List Labelled) → scan_of p s labels ≡ scan_at (world_in s labels) p 0

@@ -1,9 +1,10 @@
 -- The same choices lead to the same place with the same captures, and no list of choices begins another.
 use Rattle.std.proofs.Common.{◌≡◌, ℕ, zero, suc, ◌+◌, ◌-◌, ◌≤◌, Bool, true, false, List, [], ◌∷◌, ◌++◌, sym, ◌∙◌, ap, subst, inl, inr, arith, append_assoc}
-use Rattle.od_matching.specs.Matching.Choice.{Capture, Relation, Stays, One, Test, Jump, Never, Then, Choose, Or, Took, Named, Times, another, stop, Further, Exactly, Endless}
+use Rattle.od_matching.specs.Matching.Choice.{capture, Relation, Stays, OneToken, Test, Jump, Never, Then, Choose, Either, Took, Named, Times, another, stop, Further, Exactly, Endless}
+use Rattle.od_extraction.specs.declared.mention.Part.{Part}
 
 -- the same ends, captures and choices, and the same behind the choices
-pub record Same (j j' : ℕ) (c c' : List Capture) (t t' u u' : List ℕ) : Type 0 where
+pub record Same (j j' : ℕ) (c c' : List Part) (t t' u u' : List ℕ) : Type 0 where
   pub ends : j ≡ j'
   pub captures : c ≡ c'
   pub choices : t ≡ t'
@@ -11,7 +12,7 @@ pub record Same (j j' : ℕ) (c c' : List Capture) (t t' u u' : List ℕ) : Type
 
 -- derivations of A and of B from one place, whose choices agree as far as both go, are the same; what follows the choices agrees too
 abbrev pub Agree : Relation → Relation → Type 0
-Agree A B = (i i' j j' : ℕ) (c c' : List Capture) (t t' u u' : List ℕ) → i ≡ i' → A i j c t → B i' j' c' t' → t ++ u ≡ t' ++ u' → Same j j' c c' t t' u u'
+Agree A B = (i i' j j' : ℕ) (c c' : List Part) (t t' u u' : List ℕ) → i ≡ i' → A i j c t → B i' j' c' t' → t ++ u ≡ t' ++ u' → Same j j' c c' t t' u u'
 
 -- derivations from one place whose choices agree as far as both go are the same
 abbrev pub IsUnambiguous : Relation → Type 0
@@ -23,7 +24,7 @@ agree-Stays i i' j j' c c' t t' u u' e d d' q =
     let r : [] ++ u ≡ [] ++ u' = subst (λ (x : List ℕ). x ++ u ≡ [] ++ u') d.choices (subst (λ (x : List ℕ). t ++ u ≡ x ++ u') d'.choices q) in
     record { ends = d.ends ∙ e ∙ sym d'.ends; captures = d.captures ∙ sym d'.captures; choices = d.choices ∙ sym d'.choices; rest = r }
 
-pub agree-One : (f : ℕ → Bool) → IsUnambiguous (One f)
+pub agree-One : (f : ℕ → Bool) → IsUnambiguous (OneToken f)
 agree-One f i i' j j' c c' t t' u u' e d d' q =
     let r : [] ++ u ≡ [] ++ u' = subst (λ (x : List ℕ). x ++ u ≡ [] ++ u') d.choices (subst (λ (x : List ℕ). t ++ u ≡ x ++ u') d'.choices q) in
     record { ends = d.ends ∙ ap (λ n. n + 1) e ∙ sym d'.ends; captures = d.captures ∙ sym d'.captures; choices = d.choices ∙ sym d'.choices; rest = r }
@@ -69,7 +70,7 @@ pub agree-apart : (n m : ℕ) (A B : Relation) → (n ≡ m → ⊥) → Agree (
 agree-apart n m A B ne i i' j j' c c' t t' u u' e d d' q = absurd (ne (heads n m t t' d.later d'.later u u' d.choices d'.choices q).0)
 
 -- either side of the one against either side of the other
-pub agree-Or : (A B A' B' : Relation) → Agree A A' → Agree A B' → Agree B A' → Agree B B' → Agree (Or A B) (Or A' B')
+pub agree-Or : (A B A' B' : Relation) → Agree A A' → Agree A B' → Agree B A' → Agree B B' → Agree (Either A B) (Either A' B')
 agree-Or A B A' B' aa ab ba bb i i' j j' c c' t t' u u' e (inl d) (inl d') q = aa i i' j j' c c' t t' u u' e d d' q
 agree-Or A B A' B' aa ab ba bb i i' j j' c c' t t' u u' e (inl d) (inr d') q = ab i i' j j' c c' t t' u u' e d d' q
 agree-Or A B A' B' aa ab ba bb i i' j j' c c' t t' u u' e (inr d) (inl d') q = ba i i' j j' c c' t t' u u' e d d' q
@@ -82,9 +83,8 @@ agree-Took A la i i' j j' c c' t t' u u' e d d' q = la i i' j j' c c' t t' u u' 
 pub agree-Named : (name : List ℕ) (A : Relation) → IsUnambiguous A → IsUnambiguous (Named name A)
 agree-Named name A la i i' j j' c c' t t' u u' e d d' q =
     let x : Same j j' d.inner d'.inner t t' u u' = la i i' j j' d.inner d'.inner t t' u u' e d.goes d'.goes q in
-    let capture : ℕ → ℕ → Capture = λ a b. record { name = name; start = a; end = b } in
-    let same : ◌≡◌ {A = List Capture} (capture i j ∷ d.inner) (capture i' j' ∷ d'.inner) =
-    ap (λ a. capture a j ∷ d.inner) e ∙ ap (λ b. capture i' b ∷ d.inner) x.ends ∙ ap (λ z. capture i' j' ∷ z) x.captures in
+    let same : ◌≡◌ {A = List Part} (capture name i j ∷ d.inner) (capture name i' j' ∷ d'.inner) =
+    ap (λ a. capture name a j ∷ d.inner) e ∙ ap (λ b. capture name i' b ∷ d.inner) x.ends ∙ ap (λ z. capture name i' j' ∷ z) x.captures in
     record { ends = x.ends; captures = d.captures ∙ same ∙ sym d'.captures; choices = x.choices; rest = x.rest }
 
 pub agree-Times : (A : Relation) (n : ℕ) (B : Relation) → IsUnambiguous A → IsUnambiguous B → IsUnambiguous (Times A n B)

@@ -7,10 +7,10 @@ use Rattle.std.proofs.Math.Seq.{drop-cons}
 use Rattle.std.proofs.Math.ListN.{drop_of_length-le, get_or}
 use Rattle.std.specs.Prelude.{Option, Some, None, if◌then◌else◌, ◌&&◌, ◌||◌, length, map, drop, bytes_eq, slice_get}
 use Rattle.std.specs.List.{list_any}
-use Rattle.od_matching.specs.Matching.Holds.{holds, texts_of}
+use Rattle.od_asked.specs.Holds.{holds, texts_there}
 use Rattle.od_matching.specs.Matching.First.{Ending, Continuation, Trial, accept}
 use Rattle.od_matching.specs.Matching.Derives.{World, fits_token, first}
-use Rattle.od_matching.specs.Matching.Scan.{Match, scan_at, scan_of, world_in}
+use Rattle.od_matching.specs.Matching.Scan.{scan_at, scan_of, world_in}
 use Rattle.od_matching.specs.Matching.Words.{words_match, begins_with}
 use Rattle.od_pattern.specs.Words.{word_surface, words_surface}
 use Rattle.od_matching.proofs.Matching.Built.{first_in_order, first_seq}
@@ -22,6 +22,7 @@ use Rattle.od_pattern.specs.declared.pattern.Field.TheVariants.{Norm}
 use Rattle.od_pattern.specs.declared.pattern.Value.TheVariants.{Plain}
 use Rattle.od_pattern.specs.declared.pattern.Constraint as constraint
 use Rattle.od_pattern.specs.declared.pattern.Surface.{Surface}
+use Rattle.od_extraction.specs.declared.mention.Match.{Match}
 
 right_of : (a b : Bool) → (a && b) ≡ true → b ≡ true
 right_of true b e = e
@@ -57,14 +58,14 @@ module _ (s : Sentence) (labels : List Labelled) where
       → fits_token w (constraint.Is Norm (Plain word)) i ≡ bytes_eq word token.norm
   unfolding holds
   fits_word word i token h at =
-      ap (λ (z : Bool). z && list_any (bytes_eq word) (texts_of Norm (slice_get s.tokens i))) (lt-ltb i (length s.tokens) h)
-      ∙ ap (λ (z : Option Token). list_any (bytes_eq word) (texts_of Norm z)) at.got
+      ap (λ (z : Bool). z && list_any (bytes_eq word) (texts_there s i Norm (slice_get s.tokens i))) (lt-ltb i (length s.tokens) h)
+      ∙ ap (λ (z : Option Token). list_any (bytes_eq word) (texts_there s i Norm z)) at.got
       ∙ or_false (bytes_eq word token.norm)
 
   -- behind the last token nothing fits
   fits_outside : (word : List ℕ) (i : ℕ) → length s.tokens ≤ i → fits_token w (constraint.Is Norm (Plain word)) i ≡ false
   unfolding holds
-  fits_outside word i h = ap (λ (z : Bool). z && list_any (bytes_eq word) (texts_of Norm (slice_get s.tokens i))) (le-ltb i (length s.tokens) h)
+  fits_outside word i h = ap (λ (z : Bool). z && list_any (bytes_eq word) (texts_there s i Norm (slice_get s.tokens i))) (le-ltb i (length s.tokens) h)
 
   -- the preferred way through one word
   one_word : (word : List ℕ) (k : Continuation) (i : ℕ) (b : Bool) → fits_token w (constraint.Is Norm (Plain word)) i ≡ b

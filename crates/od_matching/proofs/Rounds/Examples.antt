@@ -5,7 +5,7 @@ use Rattle.std.specs.Prelude.{false, codes, Some, None}
 use denote.Hole.Carrier.{hidden}
 use Rattle.od_document.specs.Size.{size_in_parts}
 use Rattle.od_matching.specs.Matching.Derives.{first}
-use Rattle.od_matching.specs.Matching.Holds.{holds}
+use Rattle.od_asked.specs.Holds.{holds}
 use Rattle.od_extraction.specs.Mentions.{same_mention}
 use Rattle.od_matching.specs.Matching.Rules.{rule_mentions}
 use Rattle.od_matching.specs.Matching.Scan.{scan_from, scan_of}

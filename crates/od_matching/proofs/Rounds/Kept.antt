@@ -5,13 +5,13 @@ use Rattle.std.proofs.lemmas.List.Sums.{sum_by-cons}
 use Rattle.od_index.proofs.Tiles.{first-seen}
 use Rattle.od_pattern.specs.declared.rule.Rule.{Rule}
 use Rattle.od_extraction.specs.Mentions.{distinct}
-use Rattle.od_matching.specs.Matching.Rules.{Outcome, mentions, crowded}
+use Rattle.od_matching.specs.Matching.Rules.{RuleOutcome, mentions, crowded}
 use Rattle.od_matching.specs.Rounds.Laws.{NothingOutside, KeptIsRound, AllAreOpened, SeenIsRound, RuleAfterRule}
 use Rattle.od_matching.specs.Rounds.Round.{items_of, outcome_at, items_at, items_over, walk_over, round_over}
 use Rattle.od_matching.specs.Rounds.Sites.{Site, runs_in, rules_in}
 
 -- an outcome that is not other than no mention gives no item
-nothing-met : (rule : ℕ) (site : Site) (o : Outcome) → ((o ≡ mentions [] → ⊥) → ⊥) → items_of rule site o ≡ []
+nothing-met : (rule : ℕ) (site : Site) (o : RuleOutcome) → ((o ≡ mentions [] → ⊥) → ⊥) → items_of rule site o ≡ []
 nothing-met rule site (mentions []) h = refl
 nothing-met rule site (mentions (m ∷ ms)) h = absurd (h (λ e. cc))
 nothing-met rule site (crowded count) h = absurd (h (λ e. cc))

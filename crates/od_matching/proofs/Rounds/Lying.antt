@@ -10,7 +10,7 @@ use Rattle.od_extraction.specs.declared.mention.RoundResult.{RoundResult}
 use Rattle.od_extraction.specs.declared.mention.RoundResult.TheVariants.{Found, Crowded, TooMany}
 use Rattle.od_text.specs.Lists.{Each}
 use Rattle.od_extraction.specs.Mentions.{is_among, distinct}
-use Rattle.od_matching.specs.Matching.Rules.{Outcome, mentions, crowded, rule_mentions}
+use Rattle.od_matching.specs.Matching.Rules.{RuleOutcome, mentions, crowded, rule_mentions}
 use Rattle.od_extraction.specs.Spans.{LiesIn}
 use Rattle.od_extraction.specs.Weight.{weight, most_weight}
 use Rattle.od_matching.specs.Rounds.Sites.{Site, sites_of, sites, rules_in}
@@ -38,7 +38,7 @@ module _ (docs : List Doc) where
   -- a mention that a round meets lies in the documents
   abbrev ItemLies : Item → Type 0
   ItemLies (one m) = LiesIn docs m
-  ItemLies (crowd rule document sentence count) = Unit {0}
+  ItemLies (crowd c) = Unit {0}
 
   stands : (site : Site) → IsSite docs site → (m : Mention) → LiesAt site.document site.number (length site.words.tokens) m → LiesIn docs m
   stands site is m h = record {
@@ -49,7 +49,7 @@ module _ (docs : List Doc) where
     lies = h.lies;
   }
 
-  found-at : (rule : ℕ) (site : Site) → IsSite docs site → (found : Outcome) → ((ms : List Mention) → found ≡ mentions ms → Each (LiesAt site.document site.number (length site.words.tokens)) ms) → Each ItemLies (items_of rule site found)
+  found-at : (rule : ℕ) (site : Site) → IsSite docs site → (found : RuleOutcome) → ((ms : List Mention) → found ≡ mentions ms → Each (LiesAt site.document site.number (length site.words.tokens)) ms) → Each ItemLies (items_of rule site found)
   found-at rule site is (mentions ms) h =
       Each-map ItemLies one ms (Each-weaker (LiesAt site.document site.number (length site.words.tokens)) (LiesIn docs) (stands site is) ms (h ms refl))
   found-at rule site is (crowded count) h = (tt, tt)
@@ -87,7 +87,7 @@ module _ (docs : List Doc) where
 
     lies-walked : (r : RoundResult) (x : Item) → ResultLies r → ItemLies x → ResultLies (walked old r x)
     lies-walked (Found new) (one m) h k = lies-one new m (is_among (old ++ new) m) h k
-    lies-walked (Found new) (crowd rule document sentence count) h k = tt
+    lies-walked (Found new) (crowd c) h k = tt
     lies-walked (Crowded rule document sentence count) x h k = tt
     lies-walked (TooMany total) x h k = tt
 

@@ -31,7 +31,7 @@ one-new old new m false e h = weighed-new old new m (weight (old ++ (new ++ m �
 
 walked-each : (old : List Mention) (r : RoundResult) (x : Item) → EachIsNew old r → EachIsNew old (walked old r x)
 walked-each old (Found new) (one m) h = one-new old new m (is_among (old ++ new) m) refl h
-walked-each old (Found new) (crowd rule document sentence count) h = tt
+walked-each old (Found new) (crowd c) h = tt
 walked-each old (Crowded rule document sentence count) x h = tt
 walked-each old (TooMany total) x h = tt
 

@@ -16,9 +16,10 @@ use Rattle.od_extraction.specs.Mentions.{same_mention}
 use Rattle.od_extraction.specs.Weight.{weight, most_weight}
 use Rattle.od_matching.specs.Matching.Derives.{first}
 use Rattle.od_matching.specs.Matching.Events.{event_count, event_mentions}
-use Rattle.od_matching.specs.Matching.Holds.{holds}
+use Rattle.od_matching.specs.Matching.Hops.{most_found}
+use Rattle.od_asked.specs.Holds.{holds}
 use Rattle.od_matching.specs.Matching.Reach.{reached}
-use Rattle.od_matching.specs.Matching.Rules.{Outcome, mentions, crowded, rule_mentions, outcome, mention_of}
+use Rattle.od_matching.specs.Matching.Rules.{RuleOutcome, mentions, crowded, rule_mentions, outcome_of}
 use Rattle.od_matching.specs.Matching.Scan.{scan_from, scan_of}
 use Rattle.od_matching.specs.Rounds.Round.{Item, one, crowd as crowd_item, items_of, walked, walk_over, round_over}
 use Rattle.od_matching.specs.Rounds.Sites.{Site}
@@ -89,37 +90,37 @@ unfolding rule_mentions same_mention scan_of scan_from first holds hidden hidden
 plain_finds = refl
 
 -- with 13 arguments there are 2^13 mentions; with 14 there would be 2^14, and with 15 the count stops there
-no_crowd : event_count (event 13) barking [] ≡ None
+no_crowd : event_count most_found (event 13) barking [] ≡ None
 unfolding scan_of scan_from first holds reached hidden hidden-the_row-Surface-0 hidden-the_row-Surface-1 hidden-the_row-Path-0 hidden-the_row-Path-1
 no_crowd = refl
 
-count_14 : event_count (event 14) barking [] ≡ Some 16384
+count_14 : event_count most_found (event 14) barking [] ≡ Some 16384
 unfolding scan_of scan_from first holds reached hidden hidden-the_row-Surface-0 hidden-the_row-Surface-1 hidden-the_row-Path-0 hidden-the_row-Path-1
 count_14 = refl
 
-count_15 : event_count (event 15) barking [] ≡ Some 16384
+count_15 : event_count most_found (event 15) barking [] ≡ Some 16384
 unfolding scan_of scan_from first holds reached hidden hidden-the_row-Surface-0 hidden-the_row-Surface-1 hidden-the_row-Path-0 hidden-the_row-Path-1
 count_15 = refl
 
 -- a count that is too great is what the rule gives
-crowds : (n count : ℕ) → event_count (event n) barking [] ≡ Some count → rule_mentions (crowd n) 0 0 barking [] ≡ crowded count
+crowds : (n count : ℕ) → event_count most_found (event n) barking [] ≡ Some count → rule_mentions (crowd n) 0 0 barking [] ≡ crowded count
 unfolding rule_mentions
-crowds n count e = ap (λ o. outcome o (map (mention_of (crowd n) 0 0) (event_mentions (event n) barking []))) e
+crowds n count e = ap (λ o. outcome_of o (event_mentions (crowd n) 0 0 (event n) barking [])) e
 
 -- ## Rounds
 
 -- the crowd that a rule meets
 abbrev crowd_of : ℕ → Item
-crowd_of rule = crowd_item rule 0 0 16384
+crowd_of rule = crowd_item (record { rule = rule; document = 0; sentence = 0; count = 16384 })
 
 abbrev grammar : List Rule → Grammar
 grammar rules = record { kind = RuleFile; text = []; rules = rules }
 
 -- what the round of three rules is, by what they give
-abbrev walked_3 : List Mention → Outcome → Outcome → Outcome → RoundResult
+abbrev walked_3 : List Mention → RuleOutcome → RuleOutcome → RuleOutcome → RoundResult
 walked_3 old a b c = walk_over old ((items_of 1 at a ++ []) ++ ((items_of 2 at b ++ []) ++ ((items_of 3 at c ++ []) ++ [])))
 
-given : (old : List Mention) (a b c a' b' c' : Outcome) → a ≡ a' → b ≡ b' → c ≡ c' → walked_3 old a b c ≡ walked_3 old a' b' c'
+given : (old : List Mention) (a b c a' b' c' : RuleOutcome) → a ≡ a' → b ≡ b' → c ≡ c' → walked_3 old a b c ≡ walked_3 old a' b' c'
 given old a b c a' b' c' e f g = ap (λ o. walked_3 old o b c) e ∙ ap₂ (walked_3 old a') f g
 
 -- the first crowd is answered, with its rule's number from 1, although the third rule is crowded too

@@ -8,7 +8,7 @@ use Rattle.od_document.specs.declared.token.Edge.{Edge}
 use Rattle.od_document.specs.declared.sentence.Sentence.{Sentence}
 use Rattle.od_index.specs.Terms.{Term, text_in, term_in, token_fields, token_terms, terms_at}
 use Rattle.od_index.specs.Tables.{field_place, same_term}
-use Rattle.od_matching.specs.Matching.Holds.{one_text, texts_of, token_texts, labels_of}
+use Rattle.od_asked.specs.Holds.{one_text, texts_of, texts_there, texts_at, labels_of}
 use Rattle.od_matching.specs.Rounds.Laws.{TermsAreTexts}
 use Rattle.od_pattern.specs.declared.pattern.Field.{Field}
 use Rattle.od_pattern.specs.declared.pattern.Field.TheVariants.{Word, Norm, Lemma, Upos, Tag, Entity, Chunk, Incoming, Outgoing}
@@ -75,17 +75,18 @@ module _ (field : Field) (text : List ℕ) where
       list_any-append is (token_terms token) (incoming ++ outgoing)
       ∙ ap₂ (λ a b. a || b) (any-own token) (list_any-append is incoming outgoing ∙ ap₂ (λ a b. a || b) (any-labels Incoming (ends s k)) (any-labels Outgoing (begins s k)))
 
--- a token's own text
-own : (text : List ℕ) (field : Field) (token : Token) (found : Option Token) → found ≡ Some token → list_any (bytes_eq text) (token_texts field token) ≡ list_any (bytes_eq text) (texts_of field found)
-own text field token found e = ap (λ t. list_any (bytes_eq text) (texts_of field t)) (sym e)
+-- the texts at a place where there is this token
+here : (text : List ℕ) (s : Sentence) (k : ℕ) (token : Token) (field : Field) → slice_get s.tokens k ≡ Some token
+    → list_any (bytes_eq text) (texts_of s k token field) ≡ list_any (bytes_eq text) (texts_at s k field)
+here text s k token field e = ap (λ t. list_any (bytes_eq text) (texts_there s k field t)) (sym e)
 
 pub terms-are-texts : TermsAreTexts
-terms-are-texts s k token Word text e = any-at Word text s k token ∙ or-none _ ∙ or-none _ ∙ own text Word token (slice_get s.tokens k) e
-terms-are-texts s k token Norm text e = any-at Norm text s k token ∙ or-none _ ∙ or-none _ ∙ own text Norm token (slice_get s.tokens k) e
-terms-are-texts s k token Lemma text e = any-at Lemma text s k token ∙ or-none _ ∙ or-none _ ∙ own text Lemma token (slice_get s.tokens k) e
-terms-are-texts s k token Upos text e = any-at Upos text s k token ∙ or-none _ ∙ or-none _ ∙ own text Upos token (slice_get s.tokens k) e
-terms-are-texts s k token Tag text e = any-at Tag text s k token ∙ or-none _ ∙ or-none _ ∙ own text Tag token (slice_get s.tokens k) e
-terms-are-texts s k token Entity text e = any-at Entity text s k token ∙ or-none _ ∙ or-none _ ∙ own text Entity token (slice_get s.tokens k) e
-terms-are-texts s k token Chunk text e = any-at Chunk text s k token ∙ or-none _ ∙ or-none _ ∙ own text Chunk token (slice_get s.tokens k) e
-terms-are-texts s k token Incoming text e = any-at Incoming text s k token ∙ or-none _
-terms-are-texts s k token Outgoing text e = any-at Outgoing text s k token
+terms-are-texts s k token Word text e = any-at Word text s k token ∙ or-none _ ∙ or-none _ ∙ here text s k token Word e
+terms-are-texts s k token Norm text e = any-at Norm text s k token ∙ or-none _ ∙ or-none _ ∙ here text s k token Norm e
+terms-are-texts s k token Lemma text e = any-at Lemma text s k token ∙ or-none _ ∙ or-none _ ∙ here text s k token Lemma e
+terms-are-texts s k token Upos text e = any-at Upos text s k token ∙ or-none _ ∙ or-none _ ∙ here text s k token Upos e
+terms-are-texts s k token Tag text e = any-at Tag text s k token ∙ or-none _ ∙ or-none _ ∙ here text s k token Tag e
+terms-are-texts s k token Entity text e = any-at Entity text s k token ∙ or-none _ ∙ or-none _ ∙ here text s k token Entity e
+terms-are-texts s k token Chunk text e = any-at Chunk text s k token ∙ or-none _ ∙ or-none _ ∙ here text s k token Chunk e
+terms-are-texts s k token Incoming text e = any-at Incoming text s k token ∙ or-none _ ∙ here text s k token Incoming e
+terms-are-texts s k token Outgoing text e = any-at Outgoing text s k token ∙ here text s k token Outgoing e

@@ -72,7 +72,7 @@ new-one old new m false e h = new-weighed old new m (weight (old ++ (new ++ m �
 -- one item more
 new-walked : (old : List Mention) (r : RoundResult) (x : Item) → IsNew old r → IsNew old (walked old r x)
 new-walked old (Found new) (one m) h = new-one old new m (is_among (old ++ new) m) refl h
-new-walked old (Found new) (crowd rule document sentence count) h = tt
+new-walked old (Found new) (crowd c) h = tt
 new-walked old (Crowded rule document sentence count) x h = tt
 new-walked old (TooMany total) x h = tt
 

@@ -45,7 +45,7 @@ light-one old new m false h = light-weighed old new m (nat_lt most_weight (weigh
 -- one item more
 light-walked : (old : List Mention) (r : RoundResult) (x : Item) → IsLight old r → IsLight old (walked old r x)
 light-walked old (Found new) (one m) h = light-one old new m (is_among (old ++ new) m) h
-light-walked old (Found new) (crowd rule document sentence count) h = tt
+light-walked old (Found new) (crowd c) h = tt
 light-walked old (Crowded rule document sentence count) x h = tt
 light-walked old (TooMany total) x h = tt
 

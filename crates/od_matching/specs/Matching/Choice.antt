@@ -1,15 +1,14 @@
 -- How a piece of a pattern goes from a place to a place: with which captures, and by which choices.
-use Rattle.std.specs.Prelude.{◌≡◌, ℕ, zero, suc, ◌+◌, ◌-◌, ◌<◌, ◌≤◌, ◌⊎◌, Bool, true, false, List, [], ◌∷◌, ◌++◌}
+use Rattle.std.specs.Prelude.{◌≡◌, ℕ, zero, suc, ◌+◌, ◌-◌, ◌<◌, ◌≤◌, ◌⊎◌, Bool, true, false, List, [], ◌∷◌, ◌++◌, None}
+use Rattle.od_extraction.specs.declared.mention.Part.{Part}
 
--- a capture: its name, and the tokens that it took
-pub record Capture : Type 0 where
-  pub name : List ℕ
-  pub start : ℕ
-  pub end : ℕ
+-- a capture: a part of this name, without a label, from a start to an end
+abbrev pub capture : List ℕ → ℕ → ℕ → Part
+capture name start end = record { name = name; label = None; start = start; end = end }
 
 -- from a place to a place, with these captures and by these choices
 abbrev pub Relation : Type 1
-Relation = ℕ → ℕ → List Capture → List ℕ → Type 0
+Relation = ℕ → ℕ → List Part → List ℕ → Type 0
 
 -- dictionary order: a proper front comes before what it begins
 abbrev pub Before : List ℕ → List ℕ → Type 0
@@ -19,25 +18,26 @@ Before (x ∷ xs) [] = ⊥
 Before (x ∷ xs) (y ∷ ys) = (x < y) ⊎ ((x ≡ y) × Before xs ys)
 
 -- nothing is taken
-pub record Stays (i j : ℕ) (c : List Capture) (t : List ℕ) : Type 0 where
+pub record Stays (i j : ℕ) (c : List Part) (t : List ℕ) : Type 0 where
   pub ends : j ≡ i
   pub captures : c ≡ []
   pub choices : t ≡ []
 
 -- the token at the place is taken, which passes the test
-pub record One (test : ℕ → Bool) (i j : ℕ) (c : List Capture) (t : List ℕ) : Type 0 where
+pub record OneToken (test : ℕ → Bool) (i j : ℕ) (c : List Part) (t : List ℕ) : Type 0 where
   pub passes : test i ≡ true
   pub ends : j ≡ i + 1
   pub captures : c ≡ []
   pub choices : t ≡ []
 
 -- nothing is taken, at a place that passes the test
-pub record Test (test : ℕ → Bool) (i j : ℕ) (c : List Capture) (t : List ℕ) : Type 0 where
+pub record Test (test : ℕ → Bool) (i j : ℕ) (c : List Part) (t : List ℕ) : Type 0 where
   pub passes : test i ≡ true
   pub stays : Stays i j c t
 
--- a span that begins at the place is taken; the choice is what it leaves of the sentence, so the longest comes first
-pub record Jump (length : ℕ) (is_span : ℕ → ℕ → Bool) (i j : ℕ) (c : List Capture) (t : List ℕ) : Type 0 where
+-- a span that begins at the place is taken; the choice is what it leaves of the sentence,
+-- so the longest comes first
+pub record Jump (length : ℕ) (is_span : ℕ → ℕ → Bool) (i j : ℕ) (c : List Part) (t : List ℕ) : Type 0 where
   pub passes : is_span i j ≡ true
   pub forward : i < j
   pub within : j ≤ length
@@ -49,10 +49,10 @@ abbrev pub Never : Relation
 Never i j c t = ⊥
 
 -- one after the other
-pub record Then (A B : Relation) (i j : ℕ) (c : List Capture) (t : List ℕ) : Type 0 where
+pub record Then (A B : Relation) (i j : ℕ) (c : List Part) (t : List ℕ) : Type 0 where
   pub mid : ℕ
-  pub c1 : List Capture
-  pub c2 : List Capture
+  pub c1 : List Part
+  pub c2 : List Part
   pub t1 : List ℕ
   pub t2 : List ℕ
   pub left : A i mid c1 t1
@@ -61,23 +61,23 @@ pub record Then (A B : Relation) (i j : ℕ) (c : List Capture) (t : List ℕ) :
   pub choices : t ≡ t1 ++ t2
 
 -- by the choice n
-pub record Choose (n : ℕ) (A : Relation) (i j : ℕ) (c : List Capture) (t : List ℕ) : Type 0 where
+pub record Choose (n : ℕ) (A : Relation) (i j : ℕ) (c : List Part) (t : List ℕ) : Type 0 where
   pub later : List ℕ
   pub choices : t ≡ n ∷ later
   pub goes : A i j c later
 
 -- one or the other
-abbrev pub Or : Relation → Relation → Relation
-Or A B i j c t = A i j c t ⊎ B i j c t
+abbrev pub Either : Relation → Relation → Relation
+Either A B i j c t = A i j c t ⊎ B i j c t
 
 -- taking at least one token
 abbrev pub Took : Relation → Relation
 Took A i j c t = (i < j) × A i j c t
 
 -- what is taken is a capture, before the captures inside it
-pub record Named (name : List ℕ) (A : Relation) (i j : ℕ) (c : List Capture) (t : List ℕ) : Type 0 where
-  pub inner : List Capture
-  pub captures : c ≡ (record { name = name; start = i; end = j }) ∷ inner
+pub record Named (name : List ℕ) (A : Relation) (i j : ℕ) (c : List Part) (t : List ℕ) : Type 0 where
+  pub inner : List Part
+  pub captures : c ≡ capture name i j ∷ inner
   pub goes : A i j inner t
 
 -- n turns without a choice, and then B
@@ -98,7 +98,8 @@ stop false = 1
 -- up to n further turns, each of which takes a token; with none left to choose there is no choice
 abbrev pub Further : Bool → Relation → ℕ → Relation
 Further lazy A zero = Stays
-Further lazy A (suc n) = Or (Choose (another lazy) (Then (Took A) (Further lazy A n))) (Choose (stop lazy) Stays)
+Further lazy A (suc n) =
+    Either (Choose (another lazy) (Then (Took A) (Further lazy A n))) (Choose (stop lazy) Stays)
 
 -- n further turns, and the choice to stop
 abbrev pub Exactly : Bool → Relation → ℕ → Relation

@@ -1,12 +1,14 @@
--- The preferred way through a pattern, by trying one way after another. It knows nothing of lists of choices.
+-- The preferred way through a pattern, by trying one way after another.
+-- It knows nothing of lists of choices.
 use Rattle.std.specs.Prelude.{ℕ, zero, suc, ◌+◌, ◌-◌, Bool, true, false, List, [], ◌∷◌, ◌++◌, Option, Some, None, if◌then◌else◌, nat_lt, option_map}
 use Rattle.std.specs.Option.{option_or}
-use Rattle.od_matching.specs.Matching.Choice.{Capture}
+use Rattle.od_matching.specs.Matching.Choice.{capture}
+use Rattle.od_extraction.specs.declared.mention.Part.{Part}
 
 -- where a way ends, with the captures that begin on it, and the ends of the captures that began before
 pub record Ending : Type 0 where
   pub end : ℕ
-  pub captures : List Capture
+  pub captures : List Part
   pub ends : List ℕ
 
 -- what follows a piece: from a place, the preferred way on
@@ -22,7 +24,7 @@ abbrev pub accept : Continuation
 accept i = Some (record { end = i; captures = []; ends = [] })
 
 -- captures that begin before those of the way
-abbrev pub add : List Capture → Ending → Ending
+abbrev pub add : List Part → Ending → Ending
 add c o = record { end = o.end; captures = c ++ o.captures; ends = o.ends }
 
 -- a capture ends at j
@@ -30,9 +32,10 @@ abbrev pub close : ℕ → Ending → Ending
 close j o = record { end = o.end; captures = o.captures; ends = j ∷ o.ends }
 
 -- a capture begins at i, and ends at the first of the ends
-abbrev pub opened : List ℕ → ℕ → ℕ → List Capture → List ℕ → Ending
+abbrev pub opened : List ℕ → ℕ → ℕ → List Part → List ℕ → Ending
 opened name i end captures [] = record { end = end; captures = captures; ends = [] }
-opened name i end captures (j ∷ ends) = record { end = end; captures = (record { name = name; start = i; end = j }) ∷ captures; ends = ends }
+opened name i end captures (j ∷ ends) =
+    record { end = end; captures = capture name i j ∷ captures; ends = ends }
 
 -- the same, of a way
 abbrev pub open_capture : List ℕ → ℕ → Ending → Ending
@@ -49,7 +52,8 @@ first_test test k i = if test i then k i else None
 -- the spans from i that end at i + n or before, the longest first
 abbrev pub first_down : (ℕ → ℕ → Bool) → Continuation → ℕ → ℕ → Option Ending
 first_down is_span k i zero = None
-first_down is_span k i (suc n) = option_or (if is_span i (i + suc n) then k (i + suc n) else None) (first_down is_span k i n)
+first_down is_span k i (suc n) =
+    option_or (if is_span i (i + suc n) then k (i + suc n) else None) (first_down is_span k i n)
 
 -- the spans from i within so many tokens
 abbrev pub first_jump : ℕ → (ℕ → ℕ → Bool) → Trial
@@ -88,7 +92,8 @@ prefer false turn leave = option_or turn leave
 -- up to n further turns
 abbrev pub first_further : Bool → Trial → ℕ → Trial
 first_further lazy f zero k i = k i
-first_further lazy f (suc n) k i = prefer lazy (first_then (first_took f) (first_further lazy f n) k i) (k i)
+first_further lazy f (suc n) k i =
+    prefer lazy (first_then (first_took f) (first_further lazy f n) k i) (k i)
 
 -- all the further turns that a sentence of so many tokens has room for
 abbrev pub first_endless : ℕ → Bool → Trial → Trial

@@ -1,8 +1,8 @@
 -- Where a path leads from a token: as a relation, and as a set that is computed.
 use Rattle.std.specs.Prelude.{◌≡◌, ℕ, zero, suc, ◌-◌, ◌≤◌, ◌⊎◌, Bool, true, false, ◌&&◌, ◌||◌, ◌==◌, nat_lt, nat_le, List, length, Option, Some, None, slice_get}
 use Rattle.std.specs.List.{list_any}
-use Rattle.od_matching.specs.Matching.Texts.{fits}
-use Rattle.od_matching.specs.Matching.Holds.{holds}
+use Rattle.od_asked.specs.Texts.{fits}
+use Rattle.od_asked.specs.Holds.{holds}
 use Rattle.od_document.specs.declared.token.Edge.{Edge}
 use Rattle.od_document.specs.declared.sentence.Sentence.{Sentence}
 use Rattle.od_pattern.specs.declared.pattern.Value.{Value}
@@ -57,9 +57,13 @@ governor edge = edge.governor
 abbrev pub dependent : Edge → ℕ
 dependent edge = edge.dependent
 
--- a token of the sentence where the constraint holds
+-- how many nodes a sentence has, which paths lead to: its tokens
+abbrev pub nodes : Sentence → ℕ
+nodes s = length s.tokens
+
+-- a node of the sentence where the constraint holds
 abbrev pub holds_there : Sentence → Constraint → ℕ → Bool
-holds_there s c k = nat_lt k (length s.tokens) && holds s c k
+holds_there s c k = nat_lt k (nodes s) && holds s c k
 
 module _ (s : Sentence) where
   unfoldable mutual
@@ -88,11 +92,12 @@ Set = ℕ → Bool
 
 -- the tokens behind an edge whose label fits and that begins at a marked token
 abbrev pub cross : (from to : Edge → ℕ) → Option Value → List Edge → Set → Set
-cross from to value edges marked b = list_any (λ edge. fits_any value edge.label && marked (from edge) && (to edge == b)) edges
+cross from to value edges marked b =
+    list_any (λ edge. fits_any value edge.label && marked (from edge) && (to edge == b)) edges
 
 -- the tokens of both sets
-abbrev pub either : Set → Set → Set
-either marked more b = marked b || more b
+abbrev pub union : Set → Set → Set
+union marked more b = marked b || more b
 
 -- n times
 abbrev pub turned : (Set → Set) → ℕ → Set → Set
@@ -102,12 +107,14 @@ turned f (suc n) marked = turned f n (f marked)
 -- up to n times
 abbrev pub spread : (Set → Set) → ℕ → Set → Set
 spread f zero marked = marked
-spread f (suc n) marked = spread f n (either marked (f marked))
+spread f (suc n) marked = spread f n (union marked (f marked))
 
--- at least and at most so many times; where there is no most, as many further turns as there are tokens are enough
+-- at least and at most so many times;
+-- where there is no most, as many further turns as there are nodes are enough
 abbrev pub repeated : ℕ → (Set → Set) → ℕ → Option ℕ → Set → Set
-repeated tokens f least None marked b = spread f tokens (turned f least marked) b
-repeated tokens f least (Some most) marked b = nat_le least most && spread f (most - least) (turned f least marked) b
+repeated count f least None marked b = spread f count (turned f least marked) b
+repeated count f least (Some most) marked b =
+    nat_le least most && spread f (most - least) (turned f least marked) b
 
 module _ (s : Sentence) where
   unfoldable mutual
@@ -118,7 +125,8 @@ module _ (s : Sentence) where
     reached (Filter c) marked b = marked b && holds_there s c b
     reached (Seq' v row) marked b = reached_on row marked b
     reached (Alt' v row) marked b = reached_by row marked b
-    reached (Repeat' v (more_of-Path p end_of-Path) least most) marked b = repeated (length s.tokens) (reached p) least most marked b
+    reached (Repeat' v (more_of-Path p end_of-Path) least most) marked b =
+        repeated (nodes s) (reached p) least most marked b
 
     -- the paths one after another
     pub reached_on : {m : _} → Row_of-Path m → Set → Set

@@ -18,7 +18,7 @@ use Rattle.od_extraction.specs.declared.mention.RoundResult.TheVariants.{Found}
 use Rattle.od_extraction.specs.Joined.{joined}
 use Rattle.od_extraction.specs.Mentions.{is_among, with_new, distinct}
 use Rattle.od_extraction.specs.Weight.{weight}
-use Rattle.od_matching.specs.Matching.Holds.{texts_at}
+use Rattle.od_asked.specs.Holds.{texts_at}
 use Rattle.od_matching.specs.Rounds.Candidates.{Choice, KeepsAll, items_kept, openings}
 use Rattle.od_matching.specs.Rounds.Phases.{phase}
 use Rattle.od_matching.specs.Rounds.Round.{one, known_at, items_over, items_where_run, items_in, items_by, walked, walk_over, round_over, round}

@@ -8,14 +8,21 @@ use Rattle.od_extraction.specs.declared.mention.RoundResult.{RoundResult}
 use Rattle.od_extraction.specs.declared.mention.RoundResult.TheVariants.{Found, Crowded, TooMany}
 use Rattle.od_extraction.specs.Joined.{joined}
 use Rattle.od_extraction.specs.Mentions.{is_among, distinct}
-use Rattle.od_matching.specs.Matching.Rules.{Outcome, mentions, crowded, rule_mentions}
+use Rattle.od_matching.specs.Matching.Rules.{RuleOutcome, mentions, crowded, rule_mentions}
 use Rattle.od_extraction.specs.Weight.{weight, most_weight}
 use Rattle.od_matching.specs.Rounds.Sites.{Site, sites, runs_in, rules_in}
 
--- what a round meets: a mention, or a rule and a sentence with too many
+-- a rule, numbered from 1, that finds too much on a sentence, with the count that is too great
+pub record Crowd : Type 0 where
+  pub rule : ℕ
+  pub document : ℕ
+  pub sentence : ℕ
+  pub count : ℕ
+
+-- what a round meets: a mention, or a rule that finds too much
 pub data Item : Type 0 where
   one : Mention → Item
-  crowd : ℕ → ℕ → ℕ → ℕ → Item
+  crowd : Crowd → Item
 
 -- the mentions of one sentence
 abbrev pub in_sentence : ℕ → ℕ → List Mention → List Mention
@@ -26,13 +33,14 @@ abbrev pub known_at : List Mention → Site → List Mention
 known_at old site = in_sentence site.document site.number old
 
 -- what a rule finds at a site, against the mentions of that sentence
-abbrev pub outcome_at : List Mention → Rule → Site → Outcome
+abbrev pub outcome_at : List Mention → Rule → Site → RuleOutcome
 outcome_at old rule site = rule_mentions rule site.document site.number site.words (known_at old site)
 
 -- what a rule of this number gives at a site where it finds this
-abbrev pub items_of : ℕ → Site → Outcome → List Item
+abbrev pub items_of : ℕ → Site → RuleOutcome → List Item
 items_of rule site (mentions ms) = map one ms
-items_of rule site (crowded count) = crowd rule site.document site.number count ∷ []
+items_of rule site (crowded count) =
+    crowd (record { rule = rule; document = site.document; sentence = site.number; count = count }) ∷ []
 
 -- what a numbered rule gives at a site
 abbrev pub items_at : List Mention → ℕ × Rule → Site → List Item
@@ -71,7 +79,7 @@ weighed old new m =
 -- one item more: a mention that is there already is not added, and the first refusal stays
 abbrev pub walked : List Mention → RoundResult → Item → RoundResult
 walked old (Found new) (one m) = if is_among (old ++ new) m then Found new else weighed old new m
-walked old (Found new) (crowd rule document sentence count) = Crowded rule document sentence count
+walked old (Found new) (crowd c) = Crowded c.rule c.document c.sentence c.count
 walked old (Crowded rule document sentence count) item = Crowded rule document sentence count
 walked old (TooMany total) item = TooMany total
 

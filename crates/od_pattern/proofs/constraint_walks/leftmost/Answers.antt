@@ -1,7 +1,7 @@
 use Rattle.std.proofs.Common.{◌≡◌, ◌∙◌, sym, ap}
 use Rattle.od_pattern.specs.declared.pattern.Constraint.TheVariants as constraint
 use Rattle.od_pattern.specs.declared.constraint_walks.Frame.TheVariants as frame
-use Rattle.od_pattern.proofs.Walks.{plugged_step, total_step, weight_in_and, weight_in_or}
+use Rattle.od_pattern.proofs.Walks.{plugged_step, total_step, parts_of_and, parts_of_or}
 use Rattle.od_pattern.proofs.constraint_walks.leftmost.Goals as goal
 
 pub loop-at-preserved-in-And : goal.loop-at-preserved-in-And
@@ -11,7 +11,7 @@ loop-at-preserved-in-And c =
     record {
       same = plugged_step c.loop-at.frames.items c.push-in-And.new.frames.items (frame.AndRight c.get.result) c.loop-at.at.now c.get-at-in-And.result.now c.in_ok-push-in-And.ensures parts ∙ c.loop-at.invariant.same;
       less = total_step c.loop-at.frames.items c.push-in-And.new.frames.items (frame.AndRight c.get.result) c.loop-at.at.now c.get-at-in-And.result.now _ c.in_ok-push-in-And.ensures
-          (weight_in_and c.loop-at.at.now c.get-at-in-And.result.now c.get.result.now (sym parts)) c.loop-at.invariant.less;
+          (parts_of_and c.loop-at.at.now c.get-at-in-And.result.now c.get.result.now (sym parts)) c.loop-at.invariant.less;
     }
 
 pub loop-at-preserved : goal.loop-at-preserved
@@ -21,5 +21,5 @@ loop-at-preserved c =
     record {
       same = plugged_step c.loop-at.frames.items c.push-in-Or.new.frames.items (frame.OrRight c.get-in-Or.result) c.loop-at.at.now c.get-at-in-Or.result.now c.in_ok-push-in-Or.ensures parts ∙ c.loop-at.invariant.same;
       less = total_step c.loop-at.frames.items c.push-in-Or.new.frames.items (frame.OrRight c.get-in-Or.result) c.loop-at.at.now c.get-at-in-Or.result.now _ c.in_ok-push-in-Or.ensures
-          (weight_in_or c.loop-at.at.now c.get-at-in-Or.result.now c.get-in-Or.result.now (sym parts)) c.loop-at.invariant.less;
+          (parts_of_or c.loop-at.at.now c.get-at-in-Or.result.now c.get-in-Or.result.now (sym parts)) c.loop-at.invariant.less;
     }

@@ -9,10 +9,10 @@ use Rattle.regex_hir.specs.Text.{byte_before, has_bytes_at, char_at, is_boundary
 use Rattle.regex_hir.specs.Re.{rounds, attempt}
 use Rattle.regex_hir.specs.Meaning.{repeat}
 use Rattle.regex_hir.specs.Find.{first_from, find_str}
-use Rattle.od_matching.specs.Matching.Texts.{regex_holds}
+use Rattle.od_asked.specs.Texts.{regex_holds}
 
 -- what computes an expression without classes on a text
-computing : Unit {0}
+unfoldable pub computing : Unit {0}
 unfolding regex_holds regex_on_literals holds holds_between attempt rounds repeat first_from find_str byte_before has_bytes_at char_at is_boundary chars encode_utf8
 computing = tt
 

@@ -17,7 +17,8 @@ abbrev pub finds : Option (Nested Re × Names) → List ℕ → Bool
 finds None text = false
 finds (Some found) text = is_some (find_str found.0.value text 0)
 
--- a regular expression holds of a text: `\A(?:expression)\z`, as the regex crate reads it under its default options, finds a match
+-- a regular expression holds of a text: `\A(?:expression)\z`, as the regex crate reads it
+-- under its default options, finds a match
 unfoldable pub regex_holds : List ℕ → List ℕ → Bool
 regex_holds expression text = finds (read default_config (chars (whole expression))) text
 

@@ -1,7 +1,7 @@
 -- Where a constraint holds in a sentence.
 use Rattle.std.specs.Prelude.{ℕ, Bool, true, not, ◌&&◌, ◌||◌, ◌==◌, List, [], ◌∷◌, map, filter, Option, Some, None, slice_get}
 use Rattle.std.specs.List.{list_any}
-use Rattle.od_matching.specs.Matching.Texts.{fits}
+use Rattle.od_asked.specs.Texts.{fits}
 use Rattle.od_document.specs.declared.token.Token.{Token}
 use Rattle.od_document.specs.declared.token.Edge.{Edge}
 use Rattle.od_document.specs.declared.sentence.Sentence.{Sentence}
@@ -15,32 +15,31 @@ abbrev pub one_text : Option (List ℕ) → List (List ℕ)
 one_text None = []
 one_text (Some text) = text ∷ []
 
--- the texts that a token itself has in a field
-abbrev pub token_texts : Field → Token → List (List ℕ)
-token_texts Word token = token.word ∷ []
-token_texts Norm token = token.norm ∷ []
-token_texts Lemma token = one_text token.lemma
-token_texts Upos token = one_text token.upos
-token_texts Tag token = one_text token.tag
-token_texts Entity token = one_text token.entity
-token_texts Chunk token = one_text token.chunk
-token_texts Incoming token = []
-token_texts Outgoing token = []
-
--- the same, at a place where there may be no token
-abbrev pub texts_of : Field → Option Token → List (List ℕ)
-texts_of field None = []
-texts_of field (Some token) = token_texts field token
-
 -- the labels of some edges, in their order
 abbrev pub labels_of : List Edge → List (List ℕ)
 labels_of edges = map (λ edge. edge.label) edges
 
--- the texts that a field has at token k: the labels of the edges that end or begin there, or the token's own text
+-- the texts that a field has at token k of the sentence: the token's own text,
+-- or the labels of the edges that end or begin there
+abbrev pub texts_of : Sentence → ℕ → Token → Field → List (List ℕ)
+texts_of s k token Word = token.word ∷ []
+texts_of s k token Norm = token.norm ∷ []
+texts_of s k token Lemma = one_text token.lemma
+texts_of s k token Upos = one_text token.upos
+texts_of s k token Tag = one_text token.tag
+texts_of s k token Entity = one_text token.entity
+texts_of s k token Chunk = one_text token.chunk
+texts_of s k token Incoming = labels_of (filter (λ edge. edge.dependent == k) s.edges)
+texts_of s k token Outgoing = labels_of (filter (λ edge. edge.governor == k) s.edges)
+
+-- the same, at a place where there may be no token
+abbrev pub texts_there : Sentence → ℕ → Field → Option Token → List (List ℕ)
+texts_there s k field None = []
+texts_there s k field (Some token) = texts_of s k token field
+
+-- the texts that a field has at a place; where there is no token it has none
 abbrev pub texts_at : Sentence → ℕ → Field → List (List ℕ)
-texts_at s k Incoming = labels_of (filter (λ edge. edge.dependent == k) s.edges)
-texts_at s k Outgoing = labels_of (filter (λ edge. edge.governor == k) s.edges)
-texts_at s k field = texts_of field (slice_get s.tokens k)
+texts_at s k field = texts_there s k field (slice_get s.tokens k)
 
 -- some text of the field at token k fits the value
 abbrev pub has_text : Sentence → Field → Value → ℕ → Bool
@@ -52,5 +51,7 @@ module _ (s : Sentence) where
   holds Any k = true
   holds (Is field value) k = has_text s field value k
   holds (Not' v (more_of-Constraint c end_of-Constraint)) k = not (holds c k)
-  holds (And' v (more_of-Constraint c end_of-Constraint) w (more_of-Constraint d end_of-Constraint)) k = holds c k && holds d k
-  holds (Or' v (more_of-Constraint c end_of-Constraint) w (more_of-Constraint d end_of-Constraint)) k = holds c k || holds d k
+  holds (And' v (more_of-Constraint c end_of-Constraint) w (more_of-Constraint d end_of-Constraint)) k =
+      holds c k && holds d k
+  holds (Or' v (more_of-Constraint c end_of-Constraint) w (more_of-Constraint d end_of-Constraint)) k =
+      holds c k || holds d k
