@@ -49,6 +49,7 @@ bark = record {
   edges = edges;
   some = lit< tt;
   few = lit≤ tt;
+  few_edges = lit≤ tt;
   ends = within ((lit< tt, lit< tt), ((lit< tt, lit< tt), ((lit< tt, lit< tt), tt)));
   distinct = refl;
 }

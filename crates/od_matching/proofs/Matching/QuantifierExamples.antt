@@ -140,6 +140,7 @@ two_by_three = record {
   edges = edges;
   some = lit< tt;
   few = lit≤ tt;
+  few_edges = lit≤ tt;
   ends = within ((lit< tt, lit< tt), ((lit< tt, lit< tt), ((lit< tt, lit< tt), ((lit< tt, lit< tt), ((lit< tt, lit< tt), ((lit< tt, lit< tt), tt))))));
   distinct = refl;
 }
