@@ -1,3 +1,6 @@
 -- The lemmas of this crate.
+pub mod Lexing
 pub mod Machine
+pub mod Narrower
+pub mod Whole
 pub mod Written

@@ -5,6 +5,7 @@ use Rattle.std.specs.Char.{encode_utf8, is_whitespace, is_ascii_alphanumeric, is
 use Rattle.std.specs.Str.{encode_utf8_all}
 use Rattle.od_language.specs.declared.lexeme.LexKind.{LexKind}
 use Rattle.od_language.specs.declared.lexeme.LexKind.TheVariants.{Word, Quoted, Regex, NameOpen, AheadIs, AheadNot, BehindIs, BehindNot, Range, SquareOpen, SquareClose, RoundOpen, RoundClose, And, Or, Not, Equal, At, Along, Against, AnyAlong, AnyAgainst, Question, Star, Plus, Caret, Dollar}
+use Rattle.od_language.specs.declared.limits.TheConstants.{GREATEST_NUMBER}
 use Rattle.od_language.specs.Identifier.{is_identifier}
 
 -- an ASCII letter or digit, `_`, or a character from U+0080 that is no white space
@@ -40,12 +41,12 @@ abbrev pub value_from : ℕ → List ℕ → ℕ
 value_from n [] = n
 value_from n (d ∷ more) = value_from (n * 10 + (d - 48)) more
 
--- a number to 1,000 from its digits; none where there is no digit, or a zero leads others
+-- a number up to the greatest from its digits; none where there is no digit, or a zero leads others
 abbrev pub number : List ℕ → Option ℕ
 number [] = None
 number (d ∷ more) =
     if d == 48 && not (length more == 0) then None else
-    if nat_lt 1000 (value_from 0 (d ∷ more)) then None else
+    if nat_lt GREATEST_NUMBER (value_from 0 (d ∷ more)) then None else
     Some (value_from 0 (d ∷ more))
 
 -- the number that these digits are

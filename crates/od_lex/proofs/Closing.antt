@@ -9,10 +9,11 @@ use Rattle.od_pattern.specs.declared.pattern.Constraint.{Constraint}
 use Rattle.od_pattern.specs.declared.pattern.Constraint.TheVariants as constraint
 use Rattle.od_language.specs.Grammar.{IsConstraint}
 use Rattle.od_language.specs.Fields.{field_named}
+use Rattle.od_language.specs.Alphabet.{plain}
 use Rattle.od_language.specs.FirstFault.{Begins}
 use Rattle.od_language.proofs.Machine.{steps_append}
 use Rattle.od_lex.specs.Machine.{ended, Open, square, round, State, start, operand, named, equals, after, done, negated, both, either, step, named_by}
-use Rattle.od_language.specs.Machine.{steps, ◌>>=◌, IsReader, Refusal}
+use Rattle.od_language.specs.Machine.{Rule, steps, ◌>>=◌, IsReader, Refusal}
 use Rattle.od_language.specs.Depth.{broken_rule, depth_after, BreaksRule}
 use Rattle.od_lex.specs.Machine as machine
 use Rattle.od_lex.proofs.Complete.{constraint_goes}
@@ -32,6 +33,10 @@ word_field : (n : ℕ) (a o : Option Constraint) (k : Open) → (t : State) × (
 unfolding field_named
 word_field n a o k = let e = ends_equals _ n a o k in (named _ n a o k, refl, (Equal ∷ e.0, e.1, e.2))
 
+word_equals : (n : ℕ) (a o : Option Constraint) (k : Open) → (t : State) × (steps step (operand n a o k) (Word (codes "word") ∷ Equal ∷ []) ≡ Ok t)
+unfolding field_named
+word_equals n a o k = (equals _ n a o k, refl)
+
 ends_operand : (n : ℕ) (a o : Option Constraint) (k : Open) → Ends (operand n a o k)
 ends_operand n a o k =
     let w = word_field n a o k in (Word (codes "word") ∷ w.2.0, w.2.1, ap (λ z. z >>= λ t. steps step t w.2.0) w.1 ∙ w.2.2)
@@ -49,12 +54,12 @@ ends (done c) = ([], c, refl)
 pub begins_word : (f : List LexKind) (s : State) → steps step start f ≡ Ok s → Begins IsConstraint f
 begins_word f s h = let e = ends s in (e.0, e.1, read_is_word (f ++ e.0) e.1 (steps_append step start f e.0 ∙ ap (λ z. z >>= λ t. steps step t e.0) h ∙ e.2))
 
--- what a refusal says: where a word is no field, another word could stand
+-- what a refusal says: where a word is no field, a field and its `=` could stand
 abbrev pub Refuses : State → LexKind → Result State PatternKind → Type 0
 Refuses s x (Ok t) = Unit {0}
-Refuses s x (Err k) = (k ≡ kind.Expected) ⊎ ((name : List ℕ) × (t : State) × (x ≡ Word name) × (k ≡ kind.UnknownField) × (step s (Word (codes "word")) ≡ Ok t))
+Refuses s x (Err k) = (k ≡ kind.Expected) ⊎ ((name : List ℕ) × (t : State) × (x ≡ Word name) × (k ≡ kind.UnknownField) × (steps step s (Word (codes "word") ∷ Equal ∷ []) ≡ Ok t))
 
-refuses_named : (s : State) (name : List ℕ) (n : ℕ) (a o : Option Constraint) (k : Open) (q : Option Field) (t : State) → step s (Word (codes "word")) ≡ Ok t →
+refuses_named : (s : State) (name : List ℕ) (n : ℕ) (a o : Option Constraint) (k : Open) (q : Option Field) (t : State) → steps step s (Word (codes "word") ∷ Equal ∷ []) ≡ Ok t →
     Refuses s (Word name) (named_by q n a o k)
 refuses_named s name n a o k (Some f) t e = tt
 refuses_named s name n a o k None t e = inr (name, t, refl, refl, e)
@@ -62,7 +67,7 @@ refuses_named s name n a o k None t e = inr (name, t, refl, refl, e)
 refuses_operand : (x : LexKind) (n : ℕ) (a o : Option Constraint) (k : Open) → Refuses (operand n a o k) x (machine.step_operand x n a o k)
 refuses_operand Not n a o k = tt
 refuses_operand RoundOpen n a o k = tt
-refuses_operand (Word name) n a o k = let w = word_field n a o k in refuses_named (operand n a o k) name n a o k (field_named name) w.0 w.1
+refuses_operand (Word name) n a o k = let w = word_equals n a o k in refuses_named (operand n a o k) name n a o k (field_named name) w.0 w.1
 refuses_operand x n a o k = inl refl
 
 refuses_first : (x : LexKind) → Refuses machine.first x (machine.step_first x)
@@ -144,18 +149,18 @@ ended_by : (s : State) (c : Constraint) → ended s ≡ Some c → s ≡ done c
 ended_by (done b) c e = ap (λ z. done z) (some_is b c e)
 ended_by s c e = absurd (cc)
 
-refusal : (s : State) (x : LexKind) (k : PatternKind) → step s x ≡ Err k → Refuses s x (Err k) → Refusal step s x k
-refusal s x k e (inl is) = inl (is, λ name other w. (kind.Expected, no_word s name other (sym (ap (step s) w) ∙ e ∙ ap (λ z. Err z) is)))
+refusal : (s : State) (x : LexKind) (k : PatternKind) → step s x ≡ Err k → Refuses s x (Err k) → Refusal plain step s x k
+refusal s x k e (inl is) = inl (is, λ name other w. (kind.Expected, ap (λ z. z >>= λ t. steps step t (Equal ∷ [])) (no_word s name other (sym (ap (step s) w) ∙ e ∙ ap (λ z. Err z) is))))
 refusal s x k e (inr (name, t, w, is, o)) = inr (name, codes "word", t, w, is, o)
 
 not_end : (s t : State) → step s End ≡ Ok t → ⊥
 not_end s t e = let n : step s End ≡ Err kind.Expected = no_end s in absurd (cc)
 
 -- the rules of a constraint, as a test
-abbrev pub rule_at : ℕ → List LexKind → LexKind → Option PatternKind
+abbrev pub rule_at : ℕ → Rule LexKind
 rule_at opened front x = broken_rule (depth_after opened front) x
 
-pub reader : (opened : ℕ) → IsReader IsConstraint (BreaksRule opened) start step (rule_at opened) ended
+pub reader : (opened : ℕ) → IsReader plain IsConstraint (BreaksRule opened) start step (rule_at opened) ended
 reader opened = record {
   word = λ f c u. (done c, constraint_goes f c [] u, refl);
   means = λ f s c h e. read_is_word f c (h ∙ ap (λ z. Ok z) (ended_by s c e));

@@ -16,26 +16,26 @@ use Rattle.od_language.specs.Machine.{steps, ◌>>=◌}
 use Rattle.od_lex.specs.Machine as machine
 
 -- the `or` that stands before m, in brackets that begin at g
-abbrev OrBefore : List LexKind → Option Constraint → List LexKind → Type 0
+abbrev pub OrBefore : List LexKind → Option Constraint → List LexKind → Type 0
 OrBefore g None m = g ≡ m
 OrBefore g (Some a) m = Ors g a (Or ∷ m)
 
 -- the `and` that stands before l
-abbrev AndBefore : List LexKind → Option Constraint → List LexKind → Type 0
+abbrev pub AndBefore : List LexKind → Option Constraint → List LexKind → Type 0
 AndBefore m None l = m ≡ l
 AndBefore m (Some a) l = Ands m a (And ∷ l)
 
 -- n times `!` between p and l
-abbrev Denies : ℕ → List LexKind → List LexKind → Type 0
+abbrev pub Denies : ℕ → List LexKind → List LexKind → Type 0
 Denies n p l = (c : Constraint) (r : List LexKind) → Unary l c r → Unary p (negated n c) r
 
 -- the brackets of k begin before g
-abbrev Inside : List LexKind → Open → List LexKind → Type 0
+abbrev pub Inside : List LexKind → Open → List LexKind → Type 0
 Inside w square g = w ≡ SquareOpen ∷ g
 Inside w (round n a o k) g = (b m p : List LexKind) × Inside w k b × OrBefore b o m × AndBefore m a p × Denies n p (RoundOpen ∷ g)
 
 -- what was read of w, up to l
-abbrev Holds : List LexKind → State → List LexKind → Type 0
+abbrev pub Holds : List LexKind → State → List LexKind → Type 0
 Holds w start l = w ≡ l
 Holds w machine.first l = w ≡ SquareOpen ∷ l
 Holds w (operand n a o k) l = (g m p : List LexKind) × Inside w k g × OrBefore g o m × AndBefore m a p × Denies n p l
@@ -53,7 +53,7 @@ ors_of g None m c r e u = first g c r (subst (λ (z : List LexKind). Ands z c r)
 ors_of g (Some a) m c r h u = next g a m c r h u
 
 -- what holds behind one more lexeme that fits
-abbrev Good : List LexKind → List LexKind → Result State PatternKind → Type 0
+abbrev pub Good : List LexKind → List LexKind → Result State PatternKind → Type 0
 Good w l (Ok t) = Holds w t l
 Good w l (Err k) = Unit {0}
 
@@ -108,7 +108,7 @@ good_start : (w l : List LexKind) (x : LexKind) → w ≡ x ∷ l → Good w l (
 good_start w l SquareOpen e = e
 good_start w l x e = tt
 
-good : (w l : List LexKind) (s : State) (x : LexKind) → Holds w s (x ∷ l) → Good w l (step s x)
+pub good : (w l : List LexKind) (s : State) (x : LexKind) → Holds w s (x ∷ l) → Good w l (step s x)
 good w l start x h = good_start w l x h
 good w l machine.first x h = good_first w l x h
 good w l (operand n a o k) x h = good_operand w l x n a o k h

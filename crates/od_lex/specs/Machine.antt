@@ -1,5 +1,5 @@
 -- A constraint read one lexeme at a time: the means by which the parser is proved. Only proofs and the contracts of the parser's parts speak of it.
-use Rattle.std.specs.Prelude.{◌≡◌, ℕ, zero, suc, List, [], ◌∷◌, Option, Some, None, Result, Ok, Err}
+use Rattle.std.specs.Prelude.{◌≡◌, ℕ, zero, suc, ◌+◌, ◌-◌, ◌<◌, ◌≤◌, drop, length, List, [], ◌∷◌, Option, Some, None, Result, Ok, Err}
 use Rattle.od_pattern.specs.declared.pattern.Field.{Field}
 use Rattle.od_pattern.specs.declared.pattern.Value.{Value}
 use Rattle.od_pattern.specs.declared.pattern.Value.TheVariants.{Plain}
@@ -15,6 +15,7 @@ use Rattle.od_language.specs.declared.lexeme.LexKind.{LexKind}
 use Rattle.od_language.specs.declared.lexeme.LexKind.TheVariants.{Word, Quoted, Regex, SquareOpen, SquareClose, RoundOpen, RoundClose, And, Or, Not, Equal}
 use Rattle.od_language.specs.Fields.{field_named, compared_text}
 use Rattle.od_language.specs.Depth.{depth_behind, broken_rule}
+use Rattle.od_language.specs.Constraints.{IsConstraintRead}
 use Rattle.od_language.specs.Machine.{◌>>=◌, Outcome}
 
 -- the brackets that are open, the innermost first: behind a `(` with the `!` before it, and the operands before that
@@ -123,7 +124,7 @@ ended s = None
 
 -- the constraint and the lexemes behind it, or a fault
 abbrev pub Reading : Type 0
-Reading = Outcome Constraint
+Reading = Outcome Lexeme Constraint
 
 -- a fault with its place
 abbrev pub marked : {A : Type 0} → ℕ → Result A PatternKind → Result A (ℕ × PatternKind)
@@ -140,12 +141,6 @@ abbrev pub run : ℕ → State → List Lexeme → Reading
 run d (done c) l = Ok (c, l)
 run d s [] = Err (0, kind.Expected)
 run d s (x ∷ l) = marked x.at (step s x.kind) >>= λ t. unbroken x.at (broken_rule d x.kind) >>= λ _. run (depth_behind d x.kind) t l
-
--- what a part of the parser answers: how the reading goes on, or its fault
-abbrev pub Leads : {X : Type 0} → Result X PatternFault → Reading → (X → Reading) → Type 0
-Leads (Ok x) reading on = reading ≡ on x
-Leads (Err fault.NoMemory) reading on = Unit {0}
-Leads (Err (fault.Bad at k)) reading on = reading ≡ Err (at, k)
 
 -- the place of the first lexeme
 abbrev pub place_of : List Lexeme → ℕ
@@ -171,3 +166,11 @@ NoOr (x ∷ l) = x.kind ≡ Or → ⊥
 abbrev pub NoNot : List Lexeme → Type 0
 NoNot [] = Unit {0}
 NoNot (x ∷ l) = x.kind ≡ Not → ⊥
+
+-- a lexeme of this kind stands at a place
+abbrev pub IsAhead : LexKind → ℕ → List Lexeme → Type 0
+IsAhead k i lexemes = (x : Lexeme) × (drop i lexemes ≡ x ∷ drop (i + 1) lexemes) × (x.kind ≡ k) × (i < length lexemes)
+
+-- the lexemes from a place on begin with this constraint, up to the place `to`
+abbrev pub IsReadFrom : ℕ → List Lexeme → ℕ → Constraint → ℕ → Type 0
+IsReadFrom opened lexemes from c to = (from ≤ to) × IsConstraintRead opened (drop from lexemes) c (to - from)

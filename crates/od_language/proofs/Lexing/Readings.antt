@@ -1,23 +1,24 @@
 -- Each text has one reading, and it ends with `End`.
-use Rattle.std.proofs.Common.{◌≡◌, ℕ, zero, suc, ◌+◌, ◌≤◌, length, length-append, None, Bool, true, false, List, [], ◌∷◌, ◌++◌, Option, Some, Result, Ok, Err, refl, sym, ◌∙◌, ap, subst, arith}
+use Rattle.std.proofs.Common.{◌≡◌, ℕ, zero, suc, ◌+◌, ◌-◌, ◌≤◌, if◌then◌else◌, length, length-append, None, Bool, true, false, List, [], ◌∷◌, ◌++◌, Option, Some, Result, Ok, Err, refl, sym, ◌∙◌, ap, subst, arith}
 use Rattle.std.specs.Char.{len_utf8, is_whitespace}
 use Rattle.od_language.specs.declared.lexeme.Lexeme.{Lexeme}
 use Rattle.od_language.specs.declared.lexeme.LexKind.{LexKind}
 use Rattle.od_language.specs.declared.lexeme.LexKind.TheVariants as lexeme
 use Rattle.od_language.specs.declared.lexeme.Miss.{Miss}
-use Rattle.od_language.specs.FirstFault.{IsEnded}
-use Rattle.od_lex.specs.Forms.{form}
+use Rattle.od_language.specs.Alphabet.{plain, IsEnded}
+use Rattle.od_language.specs.Forms.{form}
 use Rattle.od_language.specs.Lexing.{size_of as bytes}
-use Rattle.od_language.specs.Lexing.{OneReading}
-use Rattle.od_lex.proofs.Spelled.{FormIs, form_is}
-use Rattle.od_lex.proofs.Longest.{longest, by_forms}
-use Rattle.od_lex.specs.Reading.{Formed, end, stuck, white, next}
+use Rattle.od_language.specs.Lexing.{Lexes, OneReading}
+use Rattle.od_language.specs.Lexed.{Lexemes, before, lexed_form, lexed_by, lexed_from, lexed, LexemesAreComputed}
+use Rattle.od_language.proofs.Lexing.Spelled.{FormIs, form_is}
+use Rattle.od_language.proofs.Lexing.Longest.{longest, by_forms}
+use Rattle.od_language.specs.Formed.{Formed, end, stuck, white, next}
 
-ended_more : (x : Lexeme) (xs : List Lexeme) → IsEnded xs → IsEnded (x ∷ xs)
+ended_more : (x : Lexeme) (xs : List Lexeme) → IsEnded plain xs → IsEnded plain (x ∷ xs)
 ended_more x [] h = absurd h
 ended_more x (y ∷ xs) h = h
 
-pub ended : (at : ℕ) (cs : List ℕ) (xs : List Lexeme) (f : Option (ℕ × Miss)) → Formed at cs xs f → IsEnded xs
+pub ended : (at : ℕ) (cs : List ℕ) (xs : List Lexeme) (f : Option (ℕ × Miss)) → Formed at cs xs f → IsEnded plain xs
 ended _ _ _ _ (end at) = refl
 ended _ _ _ _ (stuck at c cs m w h) = refl
 ended _ _ _ _ (white at c cs xs f w l) = ended (at + len_utf8 c) cs xs f l
@@ -84,36 +85,57 @@ unique _ _ _ _ (next at c front rest k xs f w h l) _ _ _ e (next _ d ahead back 
     let u = unique (at + len_utf8 c + bytes front) rest xs f l back ys g same (subst (λ (z : ℕ). Formed z back ys g) place r) in
     (ap (λ z. (record { at = at; kind = z }) ∷ xs) like ∙ ap (λ z. (record { at = at; kind = j }) ∷ z) u.0, u.1)
 
-some_form : (n at c : ℕ) (cs : List ℕ) → length cs ≤ n → is_whitespace c ≡ false →
-    ((at : ℕ) (ds : List ℕ) → length ds ≤ n → (xs : List Lexeme) × (f : Option (ℕ × Miss)) × Formed at ds xs f) →
-    (q : Result (LexKind × List ℕ) Miss) → form c cs ≡ q → FormIs c cs q → (xs : List Lexeme) × (f : Option (ℕ × Miss)) × Formed at (c ∷ cs) xs f
-some_form n at c cs b w more (Err m) h t = ((record { at = at; kind = lexeme.End }) ∷ [], Some (at, m), stuck at c cs m w h)
-some_form n at c cs b w more (Ok x) h t =
+-- what is computed is a reading, where so many characters are left at most
+abbrev IsComputed : ℕ → List ℕ → Lexemes → Type 0
+IsComputed at cs x = Formed at cs x.0 x.1
+
+computed_form : (n at c : ℕ) (cs : List ℕ) → length cs ≤ n → is_whitespace c ≡ false →
+    ((at : ℕ) (ds : List ℕ) → length ds ≤ n → IsComputed at ds (lexed_by n at ds)) →
+    (q : Form) → form c cs ≡ q → FormIs c cs q → IsComputed at (c ∷ cs) (lexed_form (λ to rest. lexed_by n to rest) at c cs q)
+computed_form n at c cs b w more (Err m) h t = stuck at c cs m w h
+computed_form n at c cs b w more (Ok x) h t =
     let size : length cs ≡ length t.front + length x.1 = ap length t.parts ∙ length-append t.front x.1 in
-    let r = more (at + len_utf8 c + bytes t.front) x.1 (omega (arith, size, b)) in (
-      (record { at = at; kind = x.0 }) ∷ r.0,
-      r.1,
-      subst (λ (z : List ℕ). Formed at (c ∷ z) ((record { at = at; kind = x.0 }) ∷ r.0) r.1) (sym t.parts)
-          (next at c t.front x.1 x.0 r.0 r.1 w (ap (form c) (sym t.parts) ∙ h) r.2),
-    )
+    let weight : bytes cs ≡ bytes t.front + bytes x.1 = ap bytes t.parts ∙ bytes_append t.front x.1 in
+    let to : ℕ = at + (bytes (c ∷ cs) - bytes x.1) in
+    let place : to ≡ at + len_utf8 c + bytes t.front = omega (arith, weight) in
+    let r : IsComputed to x.1 (lexed_by n to x.1) = more to x.1 (omega (arith, size, b)) in
+    let s : Formed (at + len_utf8 c + bytes t.front) x.1 (lexed_by n to x.1).0 (lexed_by n to x.1).1 =
+    subst (λ (z : ℕ). Formed z x.1 (lexed_by n to x.1).0 (lexed_by n to x.1).1) place r in
+    subst (λ (z : List ℕ). IsComputed at (c ∷ z) (before at x.0 (lexed_by n to x.1))) (sym t.parts)
+    (next at c t.front x.1 x.0 (lexed_by n to x.1).0 (lexed_by n to x.1).1 w (ap (form c) (sym t.parts) ∙ h) s)
 
-some_white : (n at c : ℕ) (cs : List ℕ) → length cs ≤ n →
-    ((at : ℕ) (ds : List ℕ) → length ds ≤ n → (xs : List Lexeme) × (f : Option (ℕ × Miss)) × Formed at ds xs f) →
-    (b : Bool) → is_whitespace c ≡ b → (xs : List Lexeme) × (f : Option (ℕ × Miss)) × Formed at (c ∷ cs) xs f
-some_white n at c cs s more true w = let r = more (at + len_utf8 c) cs s in (r.0, r.1, white at c cs r.0 r.1 w r.2)
-some_white n at c cs s more false w = some_form n at c cs s w more (form c cs) refl (form_is c cs)
+computed_at : (n at c : ℕ) (cs : List ℕ) → length cs ≤ n →
+    ((at : ℕ) (ds : List ℕ) → length ds ≤ n → IsComputed at ds (lexed_by n at ds)) →
+    (b : Bool) → is_whitespace c ≡ b → IsComputed at (c ∷ cs) (if b then lexed_by n (at + len_utf8 c) cs else lexed_form (λ to rest. lexed_by n to rest) at c cs (form c cs))
+computed_at n at c cs s more true w = white at c cs (lexed_by n (at + len_utf8 c) cs).0 (lexed_by n (at + len_utf8 c) cs).1 w (more (at + len_utf8 c) cs s)
+computed_at n at c cs s more false w = computed_form n at c cs s w more (form c cs) refl (form_is c cs)
 
--- a reading of so many characters at most
-some_by : (n at : ℕ) (cs : List ℕ) → length cs ≤ n → (xs : List Lexeme) × (f : Option (ℕ × Miss)) × Formed at cs xs f
-some_by n at [] s = ((record { at = at; kind = lexeme.End }) ∷ [], None, end at)
-some_by zero at (c ∷ cs) s = absurd (omega arith)
-some_by (suc n) at (c ∷ cs) s = some_white n at c cs (omega arith) (some_by n) (is_whitespace c) refl
+computed_by : (n at : ℕ) (cs : List ℕ) → length cs ≤ n → IsComputed at cs (lexed_by n at cs)
+computed_by zero at [] s = end at
+computed_by zero at (c ∷ cs) s = absurd (omega arith)
+computed_by (suc n) at [] s = end at
+computed_by (suc n) at (c ∷ cs) s = computed_at n at c cs (omega arith) (computed_by n) (is_whitespace c) refl
+
+pub computed : (at : ℕ) (cs : List ℕ) → Lexes at cs (lexed_from at cs).0 (lexed_from at cs).1
+computed at cs = longest at cs (lexed_from at cs).0 (lexed_from at cs).1 (computed_by (length cs) at cs (omega arith))
+
+pub only_computed : (at : ℕ) (cs : List ℕ) (xs : List Lexeme) (f : Option (ℕ × Miss)) → Lexes at cs xs f → lexed_from at cs ≡ (xs, f)
+only_computed at cs xs f a =
+    let u = unique at cs (lexed_from at cs).0 (lexed_from at cs).1 (computed_by (length cs) at cs (omega arith)) cs xs f refl (by_forms at cs xs f a) in
+    ap (λ z. (z, (lexed_from at cs).1)) u.0 ∙ ap (λ z. (xs, z)) u.1
+
+-- what was formed along characters that are those of a text is what is computed of the text
+pub computed_from : (cs ds : List ℕ) (xs : List Lexeme) (f : Option (ℕ × Miss)) → cs ≡ ds → Formed 0 cs xs f → lexed ds ≡ (xs, f)
+computed_from cs ds xs f e l = only_computed 0 ds xs f (subst (λ (z : List ℕ). Lexes 0 z xs f) e (longest 0 cs xs f l))
+
+pub lexemes_are_computed : LexemesAreComputed
+lexemes_are_computed at cs xs f =
+    (only_computed at cs xs f, λ e. subst (λ (z : Lexemes). Lexes at cs z.0 z.1) e (computed at cs))
 
 pub one_reading : (cs : List ℕ) → OneReading cs
 one_reading cs =
-    let r = some_by (length cs) 0 cs (omega arith) in
     record {
-      some = (r.0, r.1, longest 0 cs r.0 r.1 r.2);
+      some = ((lexed cs).0, (lexed cs).1, computed 0 cs);
       unique = λ xs ys f g a b. unique 0 cs xs f (by_forms 0 cs xs f a) cs ys g refl (by_forms 0 cs ys g b);
       ends = λ xs f a. ended 0 cs xs f (by_forms 0 cs xs f a);
     }

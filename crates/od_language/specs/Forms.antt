@@ -5,8 +5,6 @@ use Rattle.std.specs.Char.{encode_utf8, is_ascii_digit}
 use Rattle.std.specs.Str.{encode_utf8_all}
 use Rattle.od_language.specs.declared.lexeme.Miss.{Miss}
 use Rattle.od_language.specs.declared.lexeme.Miss.TheVariants as miss
-use Rattle.od_lex.specs.declared.form.Stop.{Stop}
-use Rattle.od_lex.specs.declared.form.Stop.TheVariants as stop
 use Rattle.od_language.specs.declared.lexeme.LexKind.{LexKind}
 use Rattle.od_language.specs.declared.lexeme.LexKind.TheVariants as lexeme
 use Rattle.od_language.specs.Identifier.{in_identifier, is_identifier}
@@ -171,29 +169,3 @@ form c cs =
     if c == 62 then Ok (doubled 62 lexeme.Along lexeme.AnyAlong cs) else
     if c == 60 then Ok (doubled 60 lexeme.Against lexeme.AnyAgainst cs) else
     single (symbol c) cs
-
--- a text and a place, as a text and what is behind the place
-abbrev pub found : List ℕ → Option (List ℕ × ℕ) → Option (List ℕ × List ℕ)
-found cs None = None
-found cs (Some x) = Some (x.0, drop x.1 cs)
-
--- what a function finds, by a place, is what a form finds
-abbrev pub FoundIn : {E : Type 0} → List ℕ → Result (Option (List ℕ × ℕ)) E → Option (List ℕ × List ℕ) → Type 0
-FoundIn cs (Ok o) r = found cs o ≡ r
-FoundIn cs (Err e) r = Unit {0}
-
--- a lexeme and a place, as a lexeme and what is behind the place
-abbrev pub taken : List ℕ → Option (LexKind × ℕ) → Option (LexKind × List ℕ)
-taken cs None = None
-taken cs (Some x) = Some (x.0, drop x.1 cs)
-
--- what a function takes, by a place, is what a form takes
-abbrev pub TakenIn : {E : Type 0} → List ℕ → Result (Option (LexKind × ℕ)) E → Option (LexKind × List ℕ) → Type 0
-TakenIn cs (Ok o) r = taken cs o ≡ r
-TakenIn cs (Err e) r = Unit {0}
-
--- what a form gives, by a place
-abbrev pub Forms : List ℕ → Result (LexKind × ℕ) Stop → Result (LexKind × List ℕ) Miss → Type 0
-Forms cs (Ok x) r = r ≡ Ok (x.0, drop x.1 cs)
-Forms cs (Err stop.NoMemory) r = Unit {0}
-Forms cs (Err (stop.Miss m)) r = r ≡ Err m

@@ -8,11 +8,11 @@ use Rattle.od_language.specs.declared.lexeme.LexKind.{LexKind}
 use Rattle.od_language.specs.declared.lexeme.LexKind.TheVariants.{End}
 use Rattle.od_language.specs.Spelling.{Spells}
 use Rattle.od_language.specs.Lexing.{size_of, SpellsNothing, IsLongest, miss_at, Lexes, end, stuck, white, next}
-use Rattle.od_lex.specs.Forms.{form}
-use Rattle.od_lex.specs.Reading.{Formed}
-use Rattle.od_lex.specs.Reading as by
-use Rattle.od_lex.proofs.Spelled.{FormIs, form_is}
-use Rattle.od_lex.proofs.Reaches.{Reaches, formed, reaches}
+use Rattle.od_language.specs.Forms.{form}
+use Rattle.od_language.specs.Formed.{Formed}
+use Rattle.od_language.specs.Formed as by
+use Rattle.od_language.proofs.Lexing.Spelled.{FormIs, form_is}
+use Rattle.od_language.proofs.Lexing.Reaches.{Reaches, formed, reaches}
 
 -- where two splits of one list overlap
 overlap : (a b c d : List ℕ) → a ++ b ≡ c ++ d → length a ≤ length c → (more : List ℕ) × (c ≡ a ++ more) × (b ≡ more ++ d)

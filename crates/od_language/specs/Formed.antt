@@ -1,11 +1,11 @@
--- The lexemes of a text by the forms that the lexer tests.
+-- The lexemes of a text by the first form that fits: a means of proof. No definition of the language speaks of it.
 use Rattle.std.specs.Prelude.{◌≡◌, ℕ, ◌+◌, true, false, List, [], ◌∷◌, ◌++◌, Option, Some, None, Ok, Err}
 use Rattle.std.specs.Char.{len_utf8, is_whitespace}
 use Rattle.od_language.specs.declared.lexeme.Miss.{Miss}
 use Rattle.od_language.specs.declared.lexeme.Lexeme.{Lexeme}
 use Rattle.od_language.specs.declared.lexeme.LexKind.{LexKind}
 use Rattle.od_language.specs.declared.lexeme.LexKind.TheVariants as lexeme
-use Rattle.od_lex.specs.Forms.{form}
+use Rattle.od_language.specs.Forms.{form}
 use Rattle.od_language.specs.Lexing.{size_of}
 
 -- the lexemes before the first fault, `End` at its place or at the text's length, and the fault

@@ -12,8 +12,8 @@ use Rattle.od_language.specs.declared.lexeme.LexKind.{LexKind}
 use Rattle.od_language.specs.declared.lexeme.LexKind.TheVariants as lexeme
 use Rattle.od_language.specs.Identifier.{begins_identifier, in_identifier, is_identifier}
 use Rattle.od_language.specs.Spelling.{begins_word, in_word, pair, number, IsNumber, QuotedText, closed, escaped, plain, RegexText, ended, paired, kept, symbol_of, Spells, word, quoted, regex, name_open, exactly, between, at_least, at_most, symbol}
-use Rattle.od_lex.specs.Forms as form
-use Rattle.od_lex.proofs.Spelled.{if_cases, both_true, TakenBy, looking}
+use Rattle.od_language.specs.Forms as form
+use Rattle.od_language.proofs.Lexing.Spelled.{if_cases, both_true, TakenBy, looking}
 
 -- the same lexeme, or more is taken
 abbrev pub Reaches : Result (LexKind × List ℕ) Miss → LexKind → List ℕ → Type 0

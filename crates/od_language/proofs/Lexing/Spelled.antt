@@ -11,7 +11,7 @@ use Rattle.od_language.specs.declared.lexeme.LexKind.TheVariants as lexeme
 use Rattle.od_language.specs.Identifier.{in_identifier, is_identifier}
 use Rattle.od_language.specs.Spelling.{begins_word, in_word, is_quote, pair, number, IsNumber, QuotedText, closed, escaped, plain, RegexText, ended, paired, kept, symbol_of, Spells, word, quoted, regex, name_open, exactly, between, at_least, at_most, symbol}
 use Rattle.od_language.specs.Lexing.{miss_at}
-use Rattle.od_lex.specs.Forms as form
+use Rattle.od_language.specs.Forms as form
 
 -- a fact of both branches
 pub if_cases : {R : Type 0} (P : R → Type 0) (b : Bool) (x y : R) → (b ≡ true → P x) → (b ≡ false → P y) → P (if b then x else y)
