@@ -267,7 +267,7 @@ module _ {X K S C : Type 0} (al : Alphabet X K) (Reads : Grammar K C) (Breaks : 
   wrong_of f s x k h (inl (e, n)) = wrong_for f s x k h e n (reader.refusal s x k e)
   wrong_of f s x k h (inr (t, e, r)) = breaks_rule k (reader.begins (f ++ x ∷ []) t (steps_one step f start s x (Ok t) h e)) (reader.broken f s x k h r)
 
-  pub is_read : (l : List X) (c : C) (rest : List X) (count : ℕ) → go [] start l ≡ Ok (c, rest) → length l ≡ count + length rest → IsRead al Reads Breaks l c count
+  unfoldable pub is_read : (l : List X) (c : C) (rest : List X) (count : ℕ) → go [] start l ≡ Ok (c, rest) → length l ≡ count + length rest → IsRead al Reads Breaks l c count
   is_read l c rest count o n =
       let f = found [] start l c rest refl o in
       let t = f.taken in

@@ -43,7 +43,7 @@ module _ {X K C : Type 0} (al : Alphabet X K) (Reads : Grammar K C) (Breaks : Ru
   rest_of b c m n r s e h = rest_by r.front s.front r.rest s.rest (sym r.parts ∙ s.parts) (sym r.size ∙ h ∙ s.size)
 
   -- what is left of lexemes that end once ends once
-  ends_once : (front rest : List X) → (rest ≡ [] → ⊥) → HasOneEnd al (front ++ rest) → HasOneEnd al rest
+  pub ends_once : (front rest : List X) → (rest ≡ [] → ⊥) → HasOneEnd al (front ++ rest) → HasOneEnd al rest
   ends_once [] rest n h = h
   ends_once (x ∷ []) [] n h = absurd (n refl)
   ends_once (x ∷ []) (y ∷ rest) n h = h.1
@@ -64,7 +64,7 @@ module _ {X K C : Type 0} (al : Alphabet X K) (Reads : Grammar K C) (Breaks : Ru
     own : Ends ⊎ Fails
     own = own_by one.some
 
-    own_apart : (c : C) (at : ℕ) (k : PatternKind) → IsToTheEnd al Reads Breaks lexemes c → Own at k → ⊥
+    pub own_apart : (c : C) (at : ℕ) (k : PatternKind) → IsToTheEnd al Reads Breaks lexemes c → Own at k → ⊥
     own_apart c at k v (within _ _ f) = one.apart c v.count at k v.read f
     own_apart c _ _ v (behind b n r x more e other) =
         let same = one.value c b v.count n v.read r in
@@ -74,7 +74,7 @@ module _ {X K C : Type 0} (al : Alphabet X K) (Reads : Grammar K C) (Breaks : Ru
     own_value : (b c : C) → IsToTheEnd al Reads Breaks lexemes b → IsToTheEnd al Reads Breaks lexemes c → b ≡ c
     own_value b c v w = (one.value b c v.count w.count v.read w.read).0
 
-    own_fault : (p q : ℕ) (j k : PatternKind) → Own p j → Own q k → (p ≡ q) × (j ≡ k)
+    pub own_fault : (p q : ℕ) (j k : PatternKind) → Own p j → Own q k → (p ≡ q) × (j ≡ k)
     own_fault p q j k (within _ _ f) (within _ _ g) = one.fault p q j k f g
     own_fault p _ j _ (within _ _ f) (behind c n r x more e other) = absurd (one.apart c n p j r f)
     own_fault _ q _ k (behind c n r x more e other) (within _ _ g) = absurd (one.apart c n q k r g)
@@ -90,10 +90,10 @@ module _ {X K C : Type 0} (al : Alphabet X K) (Reads : Grammar K C) (Breaks : Ru
       abbrev Fault : ℕ → PatternKind → Type 0
       Fault = IsWholeFault al Reads Breaks lexemes stuck
 
-      before_none : (at : ℕ) → stuck ≡ None → IsBefore at stuck
+      pub before_none : (at : ℕ) → stuck ≡ None → IsBefore at stuck
       before_none at e = subst (IsBefore at) (sym e) tt
 
-      before_some : (at s : ℕ) → stuck ≡ Some s → at < s → IsBefore at stuck
+      pub before_some : (at s : ℕ) → stuck ≡ Some s → at < s → IsBefore at stuck
       before_some at s e h = subst (IsBefore at) (sym e) h
 
       not_before : (at s : ℕ) → stuck ≡ Some s → IsBefore at stuck → at < s

@@ -1,6 +1,7 @@
 -- The definitions of this crate.
 pub mod Alphabet
 pub mod Answers
+pub mod ConstraintMachine
 pub mod Constraints
 pub mod Depth
 pub mod Fields
@@ -16,4 +17,5 @@ pub mod Narrower
 pub mod Query
 pub mod Spelling
 pub mod Whole
+pub mod WholeRuns
 pub mod Written

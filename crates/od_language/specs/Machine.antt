@@ -60,6 +60,11 @@ walk a step rule note ended m s (x ∷ l) = either_way (step s (a.sort x))
     (λ t. checked (rule m (a.sort x)) (a.place x) (walk a step rule note ended (note m (a.sort x)) t l))
     (λ k. stopped (ended s) (x ∷ l) (a.place x) k)
 
+-- the first rule that is broken
+abbrev pub first_broken : Option PatternKind → Option PatternKind → Option PatternKind
+first_broken None q = q
+first_broken (Some j) q = Some j
+
 -- what a part of a parser answers: how the reading goes on, or its fault
 abbrev pub GoesOn : {Y O : Type 0} → Result Y PatternFault → Result O (ℕ × PatternKind) → (Y → Result O (ℕ × PatternKind)) → Type 0
 GoesOn (Ok y) reading on = reading ≡ on y

@@ -16,11 +16,12 @@ use Rattle.od_language.specs.FirstFault.{Keeps}
 use Rattle.od_language.specs.Machine.{◌>>=◌, stopped, checked, either_way, GoesOn}
 use Rattle.od_language.specs.Machine.{run as run_behind}
 use Rattle.od_language.proofs.Machine as reading
-use Rattle.od_lex.specs.Machine.{Reading, IsReadFrom, State, start, done, step, ended, run, marked, unbroken}
+use Rattle.od_language.specs.ConstraintMachine.{State, start, done, step, ended}
+use Rattle.od_lex.specs.Machine.{Reading, IsReadFrom, run, marked, unbroken}
 use Rattle.od_language.specs.Written.{written, IsWritable}
 use Rattle.od_language.proofs.Written.{written_back}
-use Rattle.od_lex.proofs.Complete.{constraint_goes}
-use Rattle.od_lex.proofs.Closing.{reader, rule_at}
+use Rattle.od_language.proofs.Constraints.Complete.{constraint_goes}
+use Rattle.od_language.proofs.Constraints.Closing.{reader, rule_at}
 
 -- the same machine, behind the lexemes before
 abbrev go : ℕ → List LexKind → State → List Lexeme → Reading

@@ -3,7 +3,4 @@ pub mod Texts
 pub mod Sizes
 pub mod Moves
 pub mod OnlyReading
-pub mod Complete
-pub mod Sound
-pub mod Closing
 pub mod Answers

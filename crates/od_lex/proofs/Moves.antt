@@ -13,8 +13,9 @@ use Rattle.od_language.specs.declared.limits.TheConstants.{OPEN_BRACKETS}
 use Rattle.od_language.specs.Machine.{◌>>=◌, GoesOn}
 use Rattle.od_language.specs.declared.pattern_fault.PatternFault.{PatternFault}
 use Rattle.od_language.specs.declared.pattern_fault.PatternFault.TheVariants as fault
-use Rattle.od_lex.specs.Machine.{Reading, step_first, negated, both, Open, square, round, State, operand, after, start, run, marked, unbroken, step_operand, step_start}
-use Rattle.od_lex.specs.Machine as machine
+use Rattle.od_language.specs.ConstraintMachine.{step_first, negated, both, Open, square, round, State, operand, after, start, step_operand, step_start}
+use Rattle.od_lex.specs.Machine.{Reading, run, marked, unbroken}
+use Rattle.od_language.specs.ConstraintMachine as machine
 
 pub negated_next : (n k : ℕ) (t u : Constraint) → k < n → u ≡ constraint.Not t → negated (n - (k + 1)) u ≡ negated (n - k) t
 negated_next n k t u h e = let s : n - k ≡ suc (n - (k + 1)) = omega arith in rw (s, e) refl

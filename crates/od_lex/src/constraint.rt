@@ -16,7 +16,8 @@ ghost use Rattle.od_language.specs.Answers.{IfBad, Gives, Refuses};
 ghost use Rattle.od_language.specs.Constraints.{IsConstraintRead, IsConstraintFault, OneConstraint};
 ghost use Rattle.od_language.specs.FirstFault.{Keeps};
 ghost use Rattle.od_language.specs.Machine.{GoesOn};
-ghost use Rattle.od_lex.specs.Machine.{Open, square, round, start, first, NoAnd, NoOr, NoNot, operand, named, equals, after, both, either, negated, run, place_of, Makes, IsAhead, IsReadFrom};
+ghost use Rattle.od_language.specs.ConstraintMachine.{Open, square, round, start, first, operand, named, equals, after, both, either, negated};
+ghost use Rattle.od_lex.specs.Machine.{NoAnd, NoOr, NoNot, run, place_of, Makes, IsAhead, IsReadFrom};
 
 use caseless::default_case_fold_str;
 use od_language::lexeme::{LexKind, Lexeme};

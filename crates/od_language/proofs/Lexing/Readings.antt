@@ -5,7 +5,9 @@ use Rattle.od_language.specs.declared.lexeme.Lexeme.{Lexeme}
 use Rattle.od_language.specs.declared.lexeme.LexKind.{LexKind}
 use Rattle.od_language.specs.declared.lexeme.LexKind.TheVariants as lexeme
 use Rattle.od_language.specs.declared.lexeme.Miss.{Miss}
-use Rattle.od_language.specs.Alphabet.{plain, IsEnded}
+use Rattle.od_language.specs.Alphabet.{plain, IsEnded, HasOneEnd}
+use Rattle.od_language.specs.Lexing as lexing
+use Rattle.od_language.specs.Spelling.{Spells, word, quoted, regex, name_open, exactly, between, at_least, at_most, symbol, symbol_of}
 use Rattle.od_language.specs.Forms.{form}
 use Rattle.od_language.specs.Lexing.{size_of as bytes}
 use Rattle.od_language.specs.Lexing.{Lexes, OneReading}
@@ -23,6 +25,30 @@ ended _ _ _ _ (end at) = refl
 ended _ _ _ _ (stuck at c cs m w h) = refl
 ended _ _ _ _ (white at c cs xs f w l) = ended (at + len_utf8 c) cs xs f l
 ended _ _ _ _ (next at c front rest k xs f w h l) = ended_more (record { at = at; kind = k }) xs (ended (at + len_utf8 c + bytes front) rest xs f l)
+
+-- no lexeme that is spelled is the end
+spells_no_end : (cs : List ℕ) (k : LexKind) → Spells cs k → k ≡ lexeme.End → ⊥
+unfolding symbol_of
+spells_no_end _ _ (word c more b h) e = absurd (cc)
+spells_no_end _ _ (quoted mark more text b h) e = absurd (cc)
+spells_no_end _ _ (regex more text h) e = absurd (cc)
+spells_no_end _ _ (name_open name i) e = absurd (cc)
+spells_no_end _ _ (exactly a n i) e = absurd (cc)
+spells_no_end _ _ (between a n b m i j) e = absurd (cc)
+spells_no_end _ _ (at_least a n i) e = absurd (cc)
+spells_no_end _ _ (at_most b m i) e = absurd (cc)
+spells_no_end _ _ (symbol k text h) e = let n : symbol_of lexeme.End ≡ Some text = ap symbol_of (sym e) ∙ h in absurd (cc)
+
+one_more : (x : Lexeme) (xs : List Lexeme) → (x.kind ≡ lexeme.End → ⊥) → HasOneEnd plain xs → HasOneEnd plain (x ∷ xs)
+one_more x [] n h = absurd h
+one_more x (y ∷ xs) n h = (n, h)
+
+pub ends_once : (at : ℕ) (cs : List ℕ) (xs : List Lexeme) (f : Option (ℕ × Miss)) → Lexes at cs xs f → HasOneEnd plain xs
+ends_once _ _ _ _ (lexing.end at) = refl
+ends_once _ _ _ _ (lexing.stuck at c cs w n) = refl
+ends_once _ _ _ _ (lexing.white at c cs xs f w l) = ends_once (at + len_utf8 c) cs xs f l
+ends_once _ _ _ _ (lexing.next at c front rest k xs f w s o l) =
+    one_more (record { at = at; kind = k }) xs (spells_no_end (c ∷ front) k s) (ends_once (at + bytes (c ∷ front)) rest xs f l)
 
 bytes_append : (a b : List ℕ) → bytes (a ++ b) ≡ bytes a + bytes b
 bytes_append [] b = omega arith

@@ -1,5 +1,5 @@
 use Rattle.std.proofs.Common.{drop}
-use Rattle.od_lex.specs.Machine.{after, both, negated}
+use Rattle.od_language.specs.ConstraintMachine.{after, both, negated}
 use Rattle.od_lex.proofs.Moves.{leads_through, round_in, round_out}
 use Rattle.od_lex.proofs.constraint.+constraint.Goals as goal
 

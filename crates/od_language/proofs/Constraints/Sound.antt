@@ -11,9 +11,9 @@ use Rattle.od_pattern.specs.declared.pattern.Constraint.{Constraint}
 use Rattle.od_pattern.specs.declared.pattern.Constraint.TheVariants as constraint
 use Rattle.od_language.specs.Grammar.{Unary, negation, group, test, Ands, one, more, Ors, first, next, IsConstraint, empty, some}
 use Rattle.od_language.specs.Fields.{compared_text, IsValue, word, quoted, regex, field_named}
-use Rattle.od_lex.specs.Machine.{Open, square, round, State, start, operand, named, equals, after, done, negated, both, either, step, named_by}
+use Rattle.od_language.specs.ConstraintMachine.{Open, square, round, State, start, operand, named, equals, after, done, negated, both, either, step, named_by}
 use Rattle.od_language.specs.Machine.{steps, ◌>>=◌}
-use Rattle.od_lex.specs.Machine as machine
+use Rattle.od_language.specs.ConstraintMachine as machine
 
 -- the `or` that stands before m, in brackets that begin at g
 abbrev pub OrBefore : List LexKind → Option Constraint → List LexKind → Type 0

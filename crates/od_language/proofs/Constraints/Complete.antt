@@ -8,9 +8,9 @@ use Rattle.od_pattern.specs.declared.pattern.Constraint.{Constraint}
 use Rattle.od_pattern.specs.declared.pattern.Constraint.TheVariants as constraint
 use Rattle.od_language.specs.Grammar.{Unary, negation, group, test, Ands, one, more, Ors, first, next, IsConstraint, empty, some}
 use Rattle.od_language.specs.Fields.{IsValue, word, quoted, regex}
-use Rattle.od_lex.specs.Machine.{Open, square, round, State, start, operand, named, equals, after, done, negated, both, either, step, named_by}
+use Rattle.od_language.specs.ConstraintMachine.{Open, square, round, State, start, operand, named, equals, after, done, negated, both, either, step, named_by}
 use Rattle.od_language.specs.Machine.{steps, ◌>>=◌}
-use Rattle.od_lex.specs.Machine as machine
+use Rattle.od_language.specs.ConstraintMachine as machine
 
 -- behind an `or` that is whole, some part of it stands apart
 pub record Behind (s : State) (l : List LexKind) (c : Constraint) (k : Open) (r : List LexKind) : Type 0 where

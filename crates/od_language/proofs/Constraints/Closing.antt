@@ -12,12 +12,12 @@ use Rattle.od_language.specs.Fields.{field_named}
 use Rattle.od_language.specs.Alphabet.{plain}
 use Rattle.od_language.specs.FirstFault.{Begins}
 use Rattle.od_language.proofs.Machine.{steps_append}
-use Rattle.od_lex.specs.Machine.{ended, Open, square, round, State, start, operand, named, equals, after, done, negated, both, either, step, named_by}
+use Rattle.od_language.specs.ConstraintMachine.{ended, Open, square, round, State, start, operand, named, equals, after, done, negated, both, either, step, named_by}
 use Rattle.od_language.specs.Machine.{Rule, steps, ◌>>=◌, IsReader, Refusal}
 use Rattle.od_language.specs.Depth.{broken_rule, depth_after, BreaksRule}
-use Rattle.od_lex.specs.Machine as machine
-use Rattle.od_lex.proofs.Complete.{constraint_goes}
-use Rattle.od_lex.proofs.Sound.{read_is_word}
+use Rattle.od_language.specs.ConstraintMachine as machine
+use Rattle.od_language.proofs.Constraints.Complete.{constraint_goes}
+use Rattle.od_language.proofs.Constraints.Sound.{read_is_word}
 
 abbrev pub Ends : State → Type 0
 Ends s = (r : List LexKind) × (c : Constraint) × (steps step s r ≡ Ok (done c))

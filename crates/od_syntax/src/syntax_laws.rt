@@ -1,0 +1,25 @@
+//! The laws of the grammars, which hold of every text.
+//!
+//! A law is what a function here ensures; the function itself does nothing.
+ghost use Rattle.od_syntax.specs.Examples.{SurfaceExamples, PathExamples};
+ghost use Rattle.od_syntax.specs.Verdicts.{SurfacesAreComputed, SurfaceTextsAreComputed, PathsAreComputed};
+
+/// A text is a surface pattern of exactly one value or has exactly one first fault, and never both: that which is computed.
+#[tactic(auto, using(crate::proofs::Verdicts::surfaces_are_computed, crate::proofs::Verdicts::surface_texts_are_computed))]
+pub fn surfaces_are_computed()
+    ensures anywhere { SurfacesAreComputed }
+    ensures texts { SurfaceTextsAreComputed }
+{}
+
+/// The same of paths.
+#[tactic(auto, using(crate::proofs::Verdicts::paths_are_computed))]
+pub fn paths_are_computed()
+    ensures { PathsAreComputed }
+{}
+
+/// Worked cases.
+#[tactic(auto, using(crate::proofs::Examples::surface_examples, crate::proofs::Examples::path_examples))]
+pub fn cases_are_computed()
+    ensures surfaces { SurfaceExamples }
+    ensures paths { PathExamples }
+{}
