@@ -191,6 +191,13 @@ ended (listed a k) = at_top (any_of a) k
 ended (whole p k) = at_top p k
 ended s = None
 
+-- the same, where no choice came before it outside brackets
+abbrev pub joins : State → Option Surface
+joins (part p [] s top) = Some (in_order (s ++ p ∷ []))
+joins (counted p least most [] s top) = Some (in_order (s ++ repeat p least most false ∷ []))
+joins (turned [] s top) = Some (in_order s)
+joins s = None
+
 -- a body that may not be repeated so
 abbrev pub unless_may : Bool → Option PatternKind
 unless_may true = None

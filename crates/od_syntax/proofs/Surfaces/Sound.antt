@@ -22,7 +22,7 @@ use Rattle.od_language.specs.ConstraintMachine as constraint
 use Rattle.od_language.proofs.Constraints.Sound as filtered
 use Rattle.od_language.specs.ConstraintMachine.{NotDone}
 use Rattle.od_syntax.specs.Surfaces.{IsLook, ahead, ahead_not, behind, behind_not, Single, token, value, label, look as a_look, first, last as last_token, IsTurns, greedy, lazy, SurfaceAtom, single, group, capture, SurfacePart, once, repeated, SurfaceParts, last, more, SurfaceChoices, final, next, Surfaces, choice}
-use Rattle.od_syntax.specs.SurfaceMachine.{Looking, Around, top, round, State, atom, name, look, inside, looked, part, counted, turned, listed, whole, in_order, any_of, norm, repeat, closed, filled, carried, step_atom, step_turned, step_listed, step_whole, step, named_if, counted_if, at_top, ended, begins_atom}
+use Rattle.od_syntax.specs.SurfaceMachine.{Looking, Around, top, round, State, atom, name, look, inside, looked, part, counted, turned, listed, whole, in_order, any_of, norm, repeat, closed, filled, carried, step_atom, step_turned, step_listed, step_whole, step, named_if, counted_if, at_top, ended, begins_atom, joins}
 use Rattle.od_syntax.specs.SurfaceMachine as machine
 
 -- what opens the brackets
@@ -48,7 +48,7 @@ module _ (may : Surface → Option ℕ → Bool) where
   -- the brackets of k begin before g
   abbrev pub Inside : List LexKind → Around → List LexKind → Type 0
   Inside w top g = w ≡ g
-  Inside w (round o a s k) g = (b m : List LexKind) × Inside w k b × ChoicesBefore b a m × PartsBefore m s (opening o ∷ g)
+  Inside w (round o a s k) g = (b m : List LexKind) × Inside w k b × ChoicesBefore b a m × PartsBefore m s (opening o ∷ g) × (a ≡ [] → b ≡ m)
 
   -- the choices and parts before l
   pub record Before (w : List LexKind) (a s : List Surface) (k : Around) (l : List LexKind) : Type 0 where
@@ -57,6 +57,7 @@ module _ (may : Surface → Option ℕ → Bool) where
     pub around : Inside w k g
     pub choices : ChoicesBefore g a m
     pub parts : PartsBefore m s l
+    pub alone : a ≡ [] → g ≡ m
 
   -- where a constraint begins: in place of an atom, or behind the opening of a look
   abbrev pub Begun : List LexKind → Looking → List Surface → List Surface → Around → List LexKind → Type 0
@@ -73,7 +74,7 @@ module _ (may : Surface → Option ℕ → Bool) where
   Holds w (part p a s k) l = (n : List LexKind) × Before w a s k n × SurfaceAtom may n p l
   Holds w (counted p least most a s k) l = (n m : List LexKind) × (x : LexKind) × Before w a s k n × SurfaceAtom may n p m × (m ≡ x ∷ l) × IsQuantifier x least most × (may p most ≡ true)
   Holds w (turned a s k) l = (b : Before w a s k l) × SurfaceParts may b.m s l
-  Holds w (listed a k) l = (g : List LexKind) × Inside w k g × SurfaceChoices may g a l × ((m : List LexKind) → l ≡ Or ∷ m → ChoicesBefore g a m)
+  Holds w (listed a k) l = (g : List LexKind) × Inside w k g × SurfaceChoices may g a l × ((m : List LexKind) → l ≡ Or ∷ m → ChoicesBefore g a m) × (a ≡ [] → ⊥)
   Holds w (whole p k) l = (g : List LexKind) × Inside w k g × Surfaces may g p l
 
   with_part : (w : List LexKind) (a s : List Surface) (k : Around) (n : List LexKind) (p : Surface) (l : List LexKind) → Before w a s k n → SurfacePart may n p l → Holds w (turned a (s ++ p ∷ []) k) l
@@ -84,6 +85,7 @@ module _ (may : Surface → Option ℕ → Bool) where
       around = b.around;
       choices = b.choices;
       parts = λ ps r v. subst (λ (z : List Surface). SurfaceParts may b.m z r) (sym (append_assoc s (p ∷ []) ps)) (b.parts (p ∷ ps) r (more n p l ps r u v));
+      alone = b.alone;
     },
     b.parts (p ∷ []) l (last n p l u),
   )
@@ -104,12 +106,17 @@ module _ (may : Surface → Option ℕ → Bool) where
   as_lazy w p least most a s k l (n, m, x, b, u, e, i, f) =
       with_part w a s k n (repeat p least most true) l b (repeated n p m (record { least = least; most = most; lazy = true }) l u (subst (λ (z : List LexKind). IsTurns z (record { least = least; most = most; lazy = true }) l) (sym e) (lazy x least most l i)) f)
 
+  not_empty : (a : List Surface) (p : Surface) → a ++ p ∷ [] ≡ [] → ⊥
+  not_empty [] p e = absurd (cc)
+  not_empty (x ∷ a) p e = absurd (cc)
+
   pub as_listed : (w : List LexKind) (a s : List Surface) (k : Around) (l : List LexKind) → Holds w (turned a s k) l → Holds w (listed (a ++ in_order s ∷ []) k) l
   as_listed w a s k l (b, u) = (
     b.g,
     b.around,
     b.choices (in_order s ∷ []) l (final b.m s l u),
     λ m e. choices_one b.g a b.m s m b.choices (subst (λ (z : List LexKind). SurfaceParts may b.m s z) e u),
+    not_empty a (in_order s),
   )
 
   pub as_whole : (w : List LexKind) (a : List Surface) (k : Around) (l : List LexKind) → Holds w (listed a k) l → Holds w (whole (any_of a) k) l
@@ -136,7 +143,7 @@ module _ (may : Surface → Option ℕ → Bool) where
   same_end l qs r u = u
 
   good_open : (w l : List LexKind) (o : Option (List ℕ)) (a s : List Surface) (k : Around) → Before w a s k (opening o ∷ l) → Holds w (atom [] [] (round o a s k)) l
-  good_open w l o a s k h = record { g = l; m = l; around = (h.g, h.m, h.around, h.choices, h.parts); choices = λ qs r u. u; parts = λ ps r u. u }
+  good_open w l o a s k h = record { g = l; m = l; around = (h.g, h.m, h.around, h.choices, h.parts, h.alone); choices = λ qs r u. u; parts = λ ps r u. u; alone = λ e. refl }
 
   good_atom : (w l : List LexKind) (x : LexKind) (a s : List Surface) (k : Around) → Before w a s k (x ∷ l) → Good w l (machine.step_atom x a s k)
   good_atom w l SquareOpen a s k h = (SquareOpen ∷ l, h, refl, tt)
@@ -181,7 +188,7 @@ module _ (may : Surface → Option ℕ → Bool) where
   closed_atom (Some n) g p l u = capture n g p l u
 
   good_closed : (w l : List LexKind) (x : LexKind) (o : Option (List ℕ)) (p : Surface) (a s : List Surface) (k : Around) → Holds w (whole p (round o a s k)) (x ∷ l) → Good w l (machine.step_closed x o p a s k)
-  good_closed w l RoundClose o p a s k (g, (b, m, i, c, q), u) = (opening o ∷ g, record { g = b; m = m; around = i; choices = c; parts = q }, closed_atom o g p l u)
+  good_closed w l RoundClose o p a s k (g, (b, m, i, c, q, n), u) = (opening o ∷ g, record { g = b; m = m; around = i; choices = c; parts = q; alone = n }, closed_atom o g p l u)
   good_closed w l x o p a s k h = tt
 
   good_whole : (w l : List LexKind) (x : LexKind) (p : Surface) (k : Around) → Holds w (whole p k) (x ∷ l) → Good w l (machine.step_whole x p k)
@@ -189,7 +196,7 @@ module _ (may : Surface → Option ℕ → Bool) where
   good_whole w l x p (round o a s k) h = good_closed w l x o p a s k h
 
   good_listed : (w l : List LexKind) (x : LexKind) (a : List Surface) (k : Around) → Holds w (listed a k) (x ∷ l) → Good w l (machine.step_listed x a k)
-  good_listed w l Or a k h = record { g = h.0; m = l; around = h.1; choices = h.3 l refl; parts = λ ps r u. u }
+  good_listed w l Or a k h = record { g = h.0; m = l; around = h.1; choices = h.3 l refl; parts = λ ps r u. u; alone = λ e. absurd (h.4 e) }
   good_listed w l x a k h = good_whole w l x (any_of a) k (as_whole w a k (x ∷ l) h)
 
   good_either : (w l : List LexKind) (x : LexKind) (a s : List Surface) (k : Around) (b : Bool) → Holds w (turned a s k) (x ∷ l) → Good w l (if b then step_atom x a s k else step_listed x (a ++ in_order s ∷ []) k)
@@ -238,7 +245,7 @@ module _ (may : Surface → Option ℕ → Bool) where
 
   -- what holds where the machine has taken everything
   pub holds : (w : List LexKind) (t : State) → steps (step may) (atom [] [] top) w ≡ Ok t → Holds w t []
-  holds w t e = stays_good w w (atom [] [] top) t (record { g = w; m = w; around = refl; choices = λ qs r u. u; parts = λ ps r u. u }) e
+  holds w t e = stays_good w w (atom [] [] top) t (record { g = w; m = w; around = refl; choices = λ qs r u. u; parts = λ ps r u. u; alone = λ e. refl }) e
 
   abbrev some_surface : Surface → Option Surface
   some_surface p = Some p
@@ -260,3 +267,19 @@ module _ (may : Surface → Option ℕ → Bool) where
   word_of w (listed a k) q h e = word_whole w (any_of a) q k (as_whole w a k [] h) e
   word_of w (whole p k) q h e = word_whole w p q k h e
   word_of w t q h e = absurd (cc)
+
+  -- a surface of one choice
+  abbrev IsOneChoice : List LexKind → Surface → Type 0
+  IsOneChoice w p = (ps : List Surface) × (p ≡ in_order ps) × SurfaceParts may w ps []
+
+  turned_choice : (w : List LexKind) (s : List Surface) (q : Surface) → Holds w (turned [] s top) [] → some_surface (in_order s) ≡ some_surface q → IsOneChoice w q
+  turned_choice w s q (b, u) e =
+      let here : w ≡ b.m = b.around ∙ b.alone refl in
+      (s, sym (same_surface (in_order s) q e), subst (λ (z : List LexKind). SurfaceParts may z s []) (sym here) u)
+
+  pub choice_of : (w : List LexKind) (t : State) (q : Surface) → Holds w t [] → joins t ≡ Some q → IsOneChoice w q
+  choice_of w (part p [] s top) q h e = turned_choice w (s ++ p ∷ []) q (as_turned w p [] s top [] h) e
+  choice_of w (counted p least most [] s top) q h e =
+      turned_choice w (s ++ repeat p least most false ∷ []) q (as_greedy w p least most [] s top [] h) e
+  choice_of w (turned [] s top) q h e = turned_choice w s q h e
+  choice_of w t q h e = absurd (cc)
