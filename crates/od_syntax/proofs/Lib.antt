@@ -1,4 +1,5 @@
 -- The lemmas of this crate.
+pub mod Events
 pub mod Examples
 pub mod Paths
 pub mod Surfaces

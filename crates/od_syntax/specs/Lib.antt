@@ -1,5 +1,6 @@
 -- The grammars of the pattern language above constraints.
 pub mod Events
+pub mod EventVerdicts
 pub mod Examples
 pub mod Hops
 pub mod Parts

@@ -1,6 +1,7 @@
 //! The laws of the grammars, which hold of every text.
 //!
 //! A law is what a function here ensures; the function itself does nothing.
+ghost use Rattle.od_syntax.specs.EventVerdicts.{EventsAreComputed};
 ghost use Rattle.od_syntax.specs.Examples.{SurfaceExamples, PathExamples};
 ghost use Rattle.od_syntax.specs.Verdicts.{SurfacesAreComputed, SurfaceTextsAreComputed, PathsAreComputed};
 
@@ -15,6 +16,12 @@ pub fn surfaces_are_computed()
 #[tactic(auto, using(crate::proofs::Verdicts::paths_are_computed))]
 pub fn paths_are_computed()
     ensures { PathsAreComputed }
+{}
+
+/// The same of event patterns.
+#[tactic(auto, using(crate::proofs::Events::events_are_computed))]
+pub fn events_are_computed()
+    ensures { EventsAreComputed }
 {}
 
 /// Worked cases.

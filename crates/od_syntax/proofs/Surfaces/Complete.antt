@@ -81,7 +81,7 @@ module _ (may : Surface → Option ℕ → Bool) where
 
   module _ (view : State → Option Surface) (view_part : (p : Surface) (a s : List Surface) (k : Around) → view (part p a s k) ≡ view (turned a (s ++ p ∷ []) k))
       (view_counted : (p : Surface) (least : ℕ) (most : Option ℕ) (a s : List Surface) (k : Around) →
-          view (counted p least most a s k) ≡ view (turned a (s ++ repeat p least most false ∷ []) k)) where
+      view (counted p least most a s k) ≡ view (turned a (s ++ repeat p least most false ∷ []) k)) where
     abbrev seen : Option Surface → Out
     seen o = Ok o
 
