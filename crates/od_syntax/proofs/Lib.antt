@@ -1,6 +1,7 @@
 -- The lemmas of this crate.
 pub mod Events
 pub mod Examples
+pub mod OneRule
 pub mod Paths
 pub mod Surfaces
 pub mod Verdicts

@@ -3,6 +3,7 @@ pub mod Events
 pub mod EventVerdicts
 pub mod Examples
 pub mod Hops
+pub mod OneRule
 pub mod Parts
 pub mod PathMachine
 pub mod Paths

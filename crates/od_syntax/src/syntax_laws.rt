@@ -2,7 +2,8 @@
 //!
 //! A law is what a function here ensures; the function itself does nothing.
 ghost use Rattle.od_syntax.specs.EventVerdicts.{EventsAreComputed};
-ghost use Rattle.od_syntax.specs.Examples.{SurfaceExamples, PathExamples};
+ghost use Rattle.od_syntax.specs.Examples.{SurfaceExamples, PathExamples, EventExamples, StepsExamples};
+ghost use Rattle.od_syntax.specs.OneRule.{OneSurfaceRule, OneHopRule};
 ghost use Rattle.od_syntax.specs.Verdicts.{SurfacesAreComputed, SurfaceTextsAreComputed, PathsAreComputed};
 
 /// A text is a surface pattern of exactly one value or has exactly one first fault, and never both: that which is computed.
@@ -24,9 +25,17 @@ pub fn events_are_computed()
     ensures { EventsAreComputed }
 {}
 
+/// Of the rules that one lexeme of a surface pattern or of a hop breaks, one is named.
+#[tactic(auto, using(crate::proofs::OneRule::one_surface_rule, crate::proofs::OneRule::one_hop_rule))]
+pub fn one_rule_is_broken()
+    ensures surfaces { OneSurfaceRule }
+    ensures hops { OneHopRule }
+{}
+
 /// Worked cases.
-#[tactic(auto, using(crate::proofs::Examples::surface_examples, crate::proofs::Examples::path_examples))]
 pub fn cases_are_computed()
     ensures surfaces { SurfaceExamples }
     ensures paths { PathExamples }
+    ensures events { EventExamples }
+    ensures steps { StepsExamples }
 {}
