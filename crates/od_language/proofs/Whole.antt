@@ -1,7 +1,6 @@
 -- A whole text has exactly one answer, where its lexemes have one, end once, and no word goes to their very end.
-use Rattle.std.proofs.Common.{◌≡◌, ℕ, ◌+◌, ◌<◌, ◌≤◌, nat_lt, Bool, true, false, List, [], ◌∷◌, ◌++◌, length, length-append, Option, Some, None, refl, sym, ◌∙◌, ap, subst, ◌⊎◌, inl, inr, arith}
+use Rattle.std.proofs.Common.{◌≡◌, ℕ, ◌<◌, ◌≤◌, nat_lt, Bool, true, false, List, [], ◌∷◌, ◌++◌, length, Option, Some, None, refl, sym, ◌∙◌, ap, subst, ◌⊎◌, inl, inr, arith}
 use Rattle.std.proofs.lemmas.Bool.{ltb-true, ltb-false}
-use Rattle.std.proofs.lemmas.List.{append_cancel_right}
 use Rattle.od_language.specs.declared.limits.TheConstants.{PATTERN_SIZE}
 use Rattle.od_language.specs.declared.pattern_fault.PatternKind.{PatternKind}
 use Rattle.od_language.specs.declared.pattern_fault.PatternKind.TheVariants as kind

@@ -1,13 +1,13 @@
 -- What a machine makes of a whole text is its value or its first fault.
-use Rattle.std.proofs.Common.{◌≡◌, ℕ, ◌<◌, ◌≤◌, nat_lt, if◌then◌else◌, Bool, true, false, List, [], ◌∷◌, ◌++◌, length, length-append, Option, Some, None, Result, Ok, Err, refl, sym, ◌∙◌, ap, subst, arith, append-nil}
+use Rattle.std.proofs.Common.{◌≡◌, ℕ, ◌≤◌, nat_lt, if◌then◌else◌, Bool, true, false, List, [], ◌∷◌, ◌++◌, length, length-append, Option, Some, None, Result, Ok, Err, refl, sym, ◌∙◌, ap, subst, append-nil}
 use Rattle.std.proofs.lemmas.Bool.{ltb-true, ltb-false}
 use Rattle.od_language.specs.declared.limits.TheConstants.{PATTERN_SIZE}
 use Rattle.od_language.specs.declared.pattern_fault.PatternKind.{PatternKind}
 use Rattle.od_language.specs.declared.pattern_fault.PatternKind.TheVariants as kind
 use Rattle.od_language.specs.Alphabet.{Alphabet, kinds, IsEnded, HasOneEnd}
-use Rattle.od_language.specs.FirstFault.{Grammar, Rules, IsRead, IsFault, OneAnswer}
+use Rattle.od_language.specs.FirstFault.{Grammar, Rules, IsRead, OneAnswer}
 use Rattle.od_language.specs.Machine.{◌>>=◌, Step, Rule, steps, Outcome, run, IsReader}
-use Rattle.od_language.specs.Whole.{IsBefore, IsToTheEnd, IsOwnFault, within, behind, IsWhole, IsWholeFault, parser, lexer, IsSmall, IsFaultOrBig, first, big, OneOf}
+use Rattle.od_language.specs.Whole.{IsToTheEnd, IsOwnFault, within, behind, IsWhole, IsWholeFault, parser, lexer, IsSmall, IsFaultOrBig, first, big, OneOf}
 use Rattle.od_language.specs.WholeRuns.{Verdict, to_the_end, before_stuck, sized, IsVerdict}
 use Rattle.od_language.proofs.Machine.{front_taken, found, is_read, is_fault, one_answer}
 use Rattle.od_language.proofs.Whole.{ends_once, own_apart, own_fault, before_none, before_some, one_whole, one_sized}

@@ -1,5 +1,6 @@
 -- What a grammar reads: a kind of lexemes, each with the place of its first byte in the text.
--- Constraints, surface patterns and paths read the lexemes of a text; hops read lexemes of which each `(` is told apart.
+-- Constraints, surface patterns and paths read the lexemes of a text; hops read lexemes of which each
+-- `(` is told apart.
 use Rattle.std.specs.Prelude.{◌≡◌, ℕ, List, [], ◌∷◌}
 use Rattle.od_language.specs.declared.lexeme.Lexeme.{Lexeme}
 use Rattle.od_language.specs.declared.lexeme.LexKind.{LexKind}

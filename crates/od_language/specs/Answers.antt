@@ -1,4 +1,5 @@
--- What is said of an answer of the program, which may be that memory was refused; no definition of the language knows of memory.
+-- What is said of an answer of the program, which may be that memory was refused; no definition of the
+-- language knows of memory.
 use Rattle.std.specs.Prelude.{◌≡◌, ℕ, List, Result, Ok, Err, Vec, ◌⊎◌}
 use Rattle.std.specs.Global.{Global}
 use Rattle.od_language.specs.declared.lexeme.Miss.{Miss}

@@ -1,5 +1,6 @@
--- A constraint read one lexeme at a time: a means of proof, and of computing. No definition of the language speaks of it.
-use Rattle.std.specs.Prelude.{ℕ, zero, suc, List, Option, Some, None, Result, Ok, Err}
+-- A constraint read one lexeme at a time: a means of proof, and of computing. No definition of the
+-- language speaks of it.
+use Rattle.std.specs.Prelude.{ℕ, zero, suc, Option, Some, None, Result, Ok, Err}
 use Rattle.od_pattern.specs.declared.pattern.Field.{Field}
 use Rattle.od_pattern.specs.declared.pattern.Value.{Value}
 use Rattle.od_pattern.specs.declared.pattern.Value.TheVariants.{Plain}
@@ -12,12 +13,14 @@ use Rattle.od_language.specs.declared.lexeme.LexKind.{LexKind}
 use Rattle.od_language.specs.declared.lexeme.LexKind.TheVariants.{Word, Quoted, Regex, SquareOpen, SquareClose, RoundOpen, RoundClose, And, Or, Not, Equal}
 use Rattle.od_language.specs.Fields.{field_named, compared_text}
 
--- the brackets that are open, the innermost first: behind a `(` with the `!` before it, and the operands before that
+-- the brackets that are open, the innermost first: behind a `(` with the `!` before it, and the
+-- operands before that
 pub data Open : Type 0 where
   square : Open
   round : ℕ → Option Constraint → Option Constraint → Open → Open
 
--- where the reading stands; n is how many `!` stand before an operand, a the `and` before it, o the `or` before that, k the open brackets
+-- where the reading stands; n is how many `!` stand before an operand, a the `and` before it, o the
+-- `or` before that, k the open brackets
 pub data State : Type 0 where
   start : State
   first : State
@@ -43,16 +46,19 @@ either None c = c
 either (Some a) c = constraint.Or a c
 
 -- behind a word in the place of a field's name
-abbrev pub named_by : Option Field → ℕ → Option Constraint → Option Constraint → Open → Result State PatternKind
+abbrev pub named_by : Option Field → ℕ → Option Constraint → Option Constraint → Open →
+    Result State PatternKind
 named_by (Some f) n a o k = Ok (named f n a o k)
 named_by None n a o k = Err kind.UnknownField
 
 -- behind the value that a field is asked for
-abbrev pub asked_for : Field → ℕ → Option Constraint → Option Constraint → Open → Value → Result State PatternKind
+abbrev pub asked_for : Field → ℕ → Option Constraint → Option Constraint → Open → Value →
+    Result State PatternKind
 asked_for f n a o k v = Ok (after (both a (negated n (constraint.Is f v))) o k)
 
 -- where an operand comes
-abbrev pub step_operand : LexKind → ℕ → Option Constraint → Option Constraint → Open → Result State PatternKind
+abbrev pub step_operand : LexKind → ℕ → Option Constraint → Option Constraint → Open →
+    Result State PatternKind
 step_operand Not n a o k = Ok (operand (suc n) a o k)
 step_operand RoundOpen n a o k = Ok (operand 0 None None (round n a o k))
 step_operand (Word name) n a o k = named_by (field_named name) n a o k
@@ -69,7 +75,8 @@ step_after_square SquareClose c o = Ok (done (either o c))
 step_after_square x c o = Err kind.Expected
 
 -- behind an operand in round brackets
-abbrev pub step_after_round : LexKind → Constraint → Option Constraint → ℕ → Option Constraint → Option Constraint → Open → Result State PatternKind
+abbrev pub step_after_round : LexKind → Constraint → Option Constraint → ℕ → Option Constraint →
+    Option Constraint → Open → Result State PatternKind
 step_after_round RoundClose c o n a p k = Ok (after (both a (negated n (either o c))) p k)
 step_after_round x c o n a p k = Err kind.Expected
 
@@ -90,12 +97,14 @@ step_start SquareOpen = Ok first
 step_start x = Err kind.Expected
 
 -- behind a field's name
-abbrev pub step_named : LexKind → Field → ℕ → Option Constraint → Option Constraint → Open → Result State PatternKind
+abbrev pub step_named : LexKind → Field → ℕ → Option Constraint → Option Constraint → Open →
+    Result State PatternKind
 step_named Equal f n a o k = Ok (equals f n a o k)
 step_named x f n a o k = Err kind.Expected
 
 -- behind `field=`
-abbrev pub step_equals : LexKind → Field → ℕ → Option Constraint → Option Constraint → Open → Result State PatternKind
+abbrev pub step_equals : LexKind → Field → ℕ → Option Constraint → Option Constraint → Open →
+    Result State PatternKind
 step_equals (Word t) f n a o k = asked_for f n a o k (Plain (compared_text f t))
 step_equals (Quoted t) f n a o k = asked_for f n a o k (Plain (compared_text f t))
 step_equals (Regex t) f n a o k = asked_for f n a o k (value.Regex t)

@@ -1,5 +1,6 @@
--- The forms of lexemes as the lexer tests them, on characters. A form gives what stands there, and the characters behind it.
-use Rattle.std.specs.Prelude.{◌≡◌, ℕ, Bool, true, false, ◌&&◌, ◌==◌, if◌then◌else◌, List, [], ◌∷◌, ◌++◌, take, drop, Option, Some, None, Result, Ok, Err}
+-- The forms of lexemes as the lexer tests them, on characters. A form gives what stands there, and the
+-- characters behind it.
+use Rattle.std.specs.Prelude.{ℕ, Bool, true, false, ◌&&◌, ◌==◌, if◌then◌else◌, List, [], ◌∷◌, ◌++◌, take, drop, Option, Some, None, Result, Ok, Err}
 use Rattle.std.specs.List.{prefix_len}
 use Rattle.std.specs.Char.{encode_utf8, is_ascii_digit}
 use Rattle.std.specs.Str.{encode_utf8_all}
@@ -35,10 +36,12 @@ regex false (c ∷ cs) =
 
 -- a word from its first character on
 abbrev pub text_of : ℕ → List ℕ → LexKind × List ℕ
-text_of c cs = (lexeme.Word (encode_utf8 c ++ encode_utf8_all (take (prefix_len in_word cs) cs)), drop (prefix_len in_word cs) cs)
+text_of c cs =
+    (lexeme.Word (encode_utf8 c ++ encode_utf8_all (take (prefix_len in_word cs) cs)), drop (prefix_len in_word cs) cs)
 
 -- a text that was found, as a lexeme
-abbrev pub or_miss : (List ℕ → LexKind) → Miss → Option (List ℕ × List ℕ) → Result (LexKind × List ℕ) Miss
+abbrev pub or_miss : (List ℕ → LexKind) → Miss → Option (List ℕ × List ℕ) →
+    Result (LexKind × List ℕ) Miss
 or_miss f m None = Err m
 or_miss f m (Some x) = Ok (f x.0, x.1)
 
@@ -73,7 +76,8 @@ single (Some k) cs = Ok (k, cs)
 -- a name and its `>`
 abbrev pub named_to : List ℕ → List ℕ → Option (LexKind × List ℕ)
 named_to name [] = None
-named_to name (c ∷ cs) = if c == 62 && is_identifier name then Some (lexeme.NameOpen (encode_utf8_all name), cs) else None
+named_to name (c ∷ cs) =
+    if c == 62 && is_identifier name then Some (lexeme.NameOpen (encode_utf8_all name), cs) else None
 
 -- behind `(?<`, a name and `>`
 abbrev pub named : List ℕ → Option (LexKind × List ℕ)
@@ -134,7 +138,8 @@ upper a b (c ∷ cs) = if c == 125 then bounded cs (bounds a b) else None
 
 -- behind `{`, the digits a and a comma
 abbrev pub upper_from : List ℕ → List ℕ → Option (LexKind × List ℕ)
-upper_from a cs = upper a (take (prefix_len is_ascii_digit cs) cs) (drop (prefix_len is_ascii_digit cs) cs)
+upper_from a cs =
+    upper a (take (prefix_len is_ascii_digit cs) cs) (drop (prefix_len is_ascii_digit cs) cs)
 
 -- one number as both bounds
 abbrev pub exactly : Option ℕ → Option (ℕ × Option ℕ)

@@ -21,7 +21,8 @@ abbrev pub before : ℕ → LexKind → Lexemes → Lexemes
 before at k more = ((record { at = at; kind = k }) ∷ more.0, more.1)
 
 -- what stands at a place where c and cs are left, and goes on behind it
-abbrev pub lexed_form : (ℕ → List ℕ → Lexemes) → ℕ → ℕ → List ℕ → Result (LexKind × List ℕ) Miss → Lexemes
+abbrev pub lexed_form : (ℕ → List ℕ → Lexemes) → ℕ → ℕ → List ℕ → Result (LexKind × List ℕ) Miss →
+    Lexemes
 lexed_form go at c cs (Ok x) = before at x.0 (go (at + (size_of (c ∷ cs) - size_of x.1)) x.1)
 lexed_form go at c cs (Err m) = only_end at (Some (at, m))
 
@@ -44,4 +45,5 @@ lexed cs = lexed_from 0 cs
 -- a text has these lexemes exactly where they are the value
 abbrev pub LexemesAreComputed : Type 0
 LexemesAreComputed =
-    (at : ℕ) (cs : List ℕ) (xs : List Lexeme) (f : Option (ℕ × Miss)) → Lexes at cs xs f ↔ (lexed_from at cs ≡ (xs, f))
+    (at : ℕ) (cs : List ℕ) (xs : List Lexeme) (f : Option (ℕ × Miss)) →
+    Lexes at cs xs f ↔ (lexed_from at cs ≡ (xs, f))

@@ -1,4 +1,5 @@
--- A machine that reads a grammar one lexeme at a time: a means of proof. No definition of the language speaks of it.
+-- A machine that reads a grammar one lexeme at a time: a means of proof. No definition of the language
+-- speaks of it.
 use Rattle.std.specs.Prelude.{◌≡◌, ℕ, List, [], ◌∷◌, ◌++◌, Option, Some, None, Result, Ok, Err, ◌⊎◌}
 use Rattle.od_language.specs.declared.pattern_fault.PatternKind.{PatternKind}
 use Rattle.od_language.specs.declared.pattern_fault.PatternKind.TheVariants as kind
@@ -46,14 +47,16 @@ either_way (Ok t) on off = on t
 either_way (Err k) on off = off k
 
 -- as long as lexemes are taken and no rule is broken, behind the lexemes `before`
-abbrev pub run : {X K S C : Type 0} → Alphabet X K → Step S K → Rule K → (S → Option C) → List K → S → List X → Outcome X C
+abbrev pub run : {X K S C : Type 0} → Alphabet X K → Step S K → Rule K → (S → Option C) → List K →
+    S → List X → Outcome X C
 run a step rule ended before s [] = stopped (ended s) [] 0 kind.Expected
 run a step rule ended before s (x ∷ l) = either_way (step s (a.sort x))
     (λ t. checked (rule before (a.sort x)) (a.place x) (run a step rule ended (before ++ a.sort x ∷ []) t l))
     (λ k. stopped (ended s) (x ∷ l) (a.place x) k)
 
 -- the same, where the rules need no more of the lexemes before than what is noted of them
-abbrev pub walk : {X K S C M : Type 0} → Alphabet X K → Step S K → (M → K → Option PatternKind) → (M → K → M) →
+abbrev pub walk : {X K S C M : Type 0} → Alphabet X K → Step S K → (M → K → Option PatternKind) →
+    (M → K → M) →
     (S → Option C) → M → S → List X → Outcome X C
 walk a step rule note ended m s [] = stopped (ended s) [] 0 kind.Expected
 walk a step rule note ended m s (x ∷ l) = either_way (step s (a.sort x))
@@ -66,7 +69,8 @@ first_broken None q = q
 first_broken (Some j) q = Some j
 
 -- what a part of a parser answers: how the reading goes on, or its fault
-abbrev pub GoesOn : {Y O : Type 0} → Result Y PatternFault → Result O (ℕ × PatternKind) → (Y → Result O (ℕ × PatternKind)) → Type 0
+abbrev pub GoesOn : {Y O : Type 0} → Result Y PatternFault → Result O (ℕ × PatternKind) → (Y →
+    Result O (ℕ × PatternKind)) → Type 0
 GoesOn (Ok y) reading on = reading ≡ on y
 GoesOn (Err fault.NoMemory) reading on = Unit {0}
 GoesOn (Err (fault.Bad at k)) reading on = reading ≡ Err (at, k)
@@ -82,10 +86,13 @@ Refusal {X} {K} {S} a step s x k =
 -- the machine reads this grammar under these rules
 pub record IsReader {X K S C : Type 0} (a : Alphabet X K) (Reads : Grammar K C) (Breaks : Rules K) (start : S)
     (step : Step S K) (rule : Rule K) (ended : S → Option C) : Type 0 where
-  pub word : (f : List K) (c : C) → Reads f c [] → (s : S) × (steps step start f ≡ Ok s) × (ended s ≡ Some c)
+  pub word : (f : List K) (c : C) → Reads f c [] →
+      (s : S) × (steps step start f ≡ Ok s) × (ended s ≡ Some c)
   pub means : (f : List K) (s : S) (c : C) → steps step start f ≡ Ok s → ended s ≡ Some c → Reads f c []
   pub begins : (f : List K) (s : S) → steps step start f ≡ Ok s → Begins Reads f
-  pub breaks : (f : List K) (s : S) (x : K) (k : PatternKind) → steps step start f ≡ Ok s → Breaks f x k → rule f x ≡ Some k
-  pub broken : (f : List K) (s : S) (x : K) (k : PatternKind) → steps step start f ≡ Ok s → rule f x ≡ Some k → Breaks f x k
+  pub breaks : (f : List K) (s : S) (x : K) (k : PatternKind) → steps step start f ≡ Ok s →
+      Breaks f x k → rule f x ≡ Some k
+  pub broken : (f : List K) (s : S) (x : K) (k : PatternKind) → steps step start f ≡ Ok s →
+      rule f x ≡ Some k → Breaks f x k
   pub refusal : (s : S) (x : K) (k : PatternKind) → step s x ≡ Err k → Refusal a step s x k
   pub no_end : (s t : S) → step s a.end ≡ Ok t → ⊥

@@ -1,6 +1,8 @@
--- What a whole text is read as, and its first fault: the parser's and the lexer's in the order of the text, and at last
+-- What a whole text is read as, and its first fault: the parser's and the lexer's in the order of the
+-- text, and at last
 -- that the value is too big.
--- `stuck` is the place of the lexer's fault, where it has one; the lexemes end there with the end, else at the text's length.
+-- `stuck` is the place of the lexer's fault, where it has one; the lexemes end there with the end, else
+-- at the text's length.
 use Rattle.std.specs.Prelude.{◌≡◌, ℕ, ◌<◌, ◌≤◌, List, [], ◌∷◌, Option, Some, None, ◌⊎◌}
 use Rattle.od_language.specs.declared.limits.TheConstants.{PATTERN_SIZE}
 use Rattle.od_language.specs.declared.pattern_fault.PatternKind.{PatternKind}
@@ -37,7 +39,8 @@ module _ {X K C : Type 0} (a : Alphabet X K) (Reads : Grammar K C) (Breaks : Rul
     -- The first fault of a text: the parser's, where it stands before the lexer's; else the lexer's.
     pub data IsWholeFault : ℕ → PatternKind → Type 0 where
       parser : (at : ℕ) (k : PatternKind) → IsOwnFault at k → IsBefore at stuck → IsWholeFault at k
-      lexer : (at : ℕ) → stuck ≡ Some at → ((b : ℕ) (k : PatternKind) → IsOwnFault b k → at ≤ b) → IsWholeFault at kind.Lex
+      lexer : (at : ℕ) → stuck ≡ Some at → ((b : ℕ) (k : PatternKind) → IsOwnFault b k → at ≤ b) →
+          IsWholeFault at kind.Lex
 
 -- a value that is not too big
 pub record IsSmall {C : Type 0} (Value : C → Type 0) (size : C → ℕ) (value : C) : Type 0 where

@@ -1,5 +1,5 @@
 -- A whole text as a value: what its lexemes are read as, up to the end, or the first fault.
-use Rattle.std.specs.Prelude.{◌≡◌, ◌↔◌, ℕ, nat_lt, if◌then◌else◌, List, [], ◌∷◌, Option, Some, None, Result, Ok, Err}
+use Rattle.std.specs.Prelude.{◌≡◌, ◌↔◌, ℕ, nat_lt, if◌then◌else◌, [], ◌∷◌, Option, Some, None, Result, Ok, Err}
 use Rattle.od_language.specs.declared.limits.TheConstants.{PATTERN_SIZE}
 use Rattle.od_language.specs.declared.pattern_fault.PatternKind.{PatternKind}
 use Rattle.od_language.specs.declared.pattern_fault.PatternKind.TheVariants as kind
@@ -29,6 +29,7 @@ sized size (Ok c) = if nat_lt PATTERN_SIZE (size c) then Err (0, kind.TooBig) el
 sized size (Err e) = Err e
 
 -- The verdict is the value exactly where there is one, and the fault exactly where there is one.
-pub record IsVerdict {C : Type 0} (Value : C → Type 0) (Fault : ℕ → PatternKind → Type 0) (verdict : Verdict C) : Type 0 where
+pub record IsVerdict {C : Type 0} (Value : C → Type 0) (Fault : ℕ → PatternKind →
+    Type 0) (verdict : Verdict C) : Type 0 where
   pub value : (c : C) → Value c ↔ (verdict ≡ Ok c)
   pub fault : (at : ℕ) (k : PatternKind) → Fault at k ↔ (verdict ≡ Err (at, k))

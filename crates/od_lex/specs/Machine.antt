@@ -1,4 +1,5 @@
--- A constraint read one lexeme at a time, with the rules: what the contracts of the parser's parts speak of.
+-- A constraint read one lexeme at a time, with the rules: what the contracts of the parser's parts
+-- speak of.
 use Rattle.std.specs.Prelude.{◌≡◌, ℕ, ◌+◌, ◌-◌, ◌<◌, ◌≤◌, drop, length, List, [], ◌∷◌, Option, Some, None, Result, Ok, Err}
 use Rattle.od_pattern.specs.declared.pattern.Constraint.{Constraint}
 use Rattle.od_language.specs.declared.pattern_fault.PatternKind.{PatternKind}
@@ -31,7 +32,8 @@ unbroken at (Some k) = Err (at, k)
 abbrev pub run : ℕ → State → List Lexeme → Reading
 run d (done c) l = Ok (c, l)
 run d s [] = Err (0, kind.Expected)
-run d s (x ∷ l) = marked x.at (step s x.kind) >>= λ t. unbroken x.at (broken_rule d x.kind) >>= λ _. run (depth_behind d x.kind) t l
+run d s (x ∷ l) =
+    marked x.at (step s x.kind) >>= λ t. unbroken x.at (broken_rule d x.kind) >>= λ _. run (depth_behind d x.kind) t l
 
 -- the place of the first lexeme
 abbrev pub place_of : List Lexeme → ℕ
@@ -60,8 +62,10 @@ NoNot (x ∷ l) = x.kind ≡ Not → ⊥
 
 -- a lexeme of this kind stands at a place
 abbrev pub IsAhead : LexKind → ℕ → List Lexeme → Type 0
-IsAhead k i lexemes = (x : Lexeme) × (drop i lexemes ≡ x ∷ drop (i + 1) lexemes) × (x.kind ≡ k) × (i < length lexemes)
+IsAhead k i lexemes =
+    (x : Lexeme) × (drop i lexemes ≡ x ∷ drop (i + 1) lexemes) × (x.kind ≡ k) × (i < length lexemes)
 
 -- the lexemes from a place on begin with this constraint, up to the place `to`
 abbrev pub IsReadFrom : ℕ → List Lexeme → ℕ → Constraint → ℕ → Type 0
-IsReadFrom opened lexemes from c to = (from ≤ to) × IsConstraintRead opened (drop from lexemes) c (to - from)
+IsReadFrom opened lexemes from c to =
+    (from ≤ to) × IsConstraintRead opened (drop from lexemes) c (to - from)

@@ -11,7 +11,8 @@ found cs None = None
 found cs (Some x) = Some (x.0, drop x.1 cs)
 
 -- what a function finds, by a place, is what a form finds
-abbrev pub FoundIn : {E : Type 0} → List ℕ → Result (Option (List ℕ × ℕ)) E → Option (List ℕ × List ℕ) → Type 0
+abbrev pub FoundIn : {E : Type 0} → List ℕ → Result (Option (List ℕ × ℕ)) E →
+    Option (List ℕ × List ℕ) → Type 0
 FoundIn cs (Ok o) r = found cs o ≡ r
 FoundIn cs (Err e) r = Unit {0}
 
@@ -21,7 +22,8 @@ taken cs None = None
 taken cs (Some x) = Some (x.0, drop x.1 cs)
 
 -- what a function takes, by a place, is what a form takes
-abbrev pub TakenIn : {E : Type 0} → List ℕ → Result (Option (LexKind × ℕ)) E → Option (LexKind × List ℕ) → Type 0
+abbrev pub TakenIn : {E : Type 0} → List ℕ → Result (Option (LexKind × ℕ)) E →
+    Option (LexKind × List ℕ) → Type 0
 TakenIn cs (Ok o) r = taken cs o ≡ r
 TakenIn cs (Err e) r = Unit {0}
 

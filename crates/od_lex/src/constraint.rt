@@ -155,7 +155,8 @@ fn value(
 
 /// A plain value of a field; for norms it is folded.
 fn plain(alloc: Global, field: Field, text: &Text) -> Result<Value, PatternFault>
-    ensures { MatchResult result (λ v. v ≡ asked.Plain (compared_text field text.now)) (λ e. e ≡ PatternFault.NoMemory) }
+    ensures { MatchResult result (λ v. v ≡ asked.Plain (compared_text field text.now))
+        (λ e. e ≡ PatternFault.NoMemory) }
 {
     match field {
         Field::Norm => {
@@ -350,7 +351,8 @@ fn alternatives(
     from: usize,
     depth: usize,
 ) -> Result<(Constraint, usize), PatternFault>
-    ensures goes { (k : Open) → GoesOn result (run depth (operand 0 None None k) (drop from lexemes.now))
+    ensures goes { (k : Open) →
+        GoesOn result (run depth (operand 0 None None k) (drop from lexemes.now))
         (λ x. run depth (after x.0 None k) (drop x.1 lexemes.now)) }
     ensures on { IfOk result (λ x. from < x.1) }
     ensures stops { IfOk result (λ x. NoAnd (drop x.1 lexemes.now) × NoOr (drop x.1 lexemes.now)) }
@@ -371,7 +373,8 @@ fn filled(
     from: usize,
     depth: usize,
 ) -> Result<(Constraint, usize), PatternFault>
-    ensures goes { GoesOn result (run depth (operand 0 None None square) (drop from lexemes.now)) (λ x. Ok (x.0, drop x.1 lexemes.now)) }
+    ensures goes { GoesOn result (run depth (operand 0 None None square) (drop from lexemes.now))
+        (λ x. Ok (x.0, drop x.1 lexemes.now)) }
     ensures on { IfOk result (λ x. (from < x.1) × (x.1 ≤ length lexemes.now)) }
 {
     let (c, end) = alternatives(alloc, lexemes, from, depth)?;
@@ -386,7 +389,8 @@ fn inside(
     from: usize,
     depth: usize,
 ) -> Result<(Constraint, usize), PatternFault>
-    ensures goes { GoesOn result (run depth first (drop from lexemes.now)) (λ x. Ok (x.0, drop x.1 lexemes.now)) }
+    ensures goes { GoesOn result (run depth first (drop from lexemes.now))
+        (λ x. Ok (x.0, drop x.1 lexemes.now)) }
     ensures on { IfOk result (λ x. (from < x.1) × (x.1 ≤ length lexemes.now)) }
 {
     match next(lexemes, from) {
@@ -401,7 +405,8 @@ fn inside(
 /// The end of a constraint.
 fn square_close(lexemes: &[Lexeme], from: usize) -> Result<usize, PatternFault>
     ensures on { IfOk result (λ to. (from < to) × (to ≤ length lexemes.now)) }
-    ensures goes { (d : ℕ) (c : Constraint) → NoAnd (drop from lexemes.now) → NoOr (drop from lexemes.now) →
+    ensures goes { (d : ℕ) (c : Constraint) → NoAnd (drop from lexemes.now) →
+        NoOr (drop from lexemes.now) →
         GoesOn result (run d (after c None square) (drop from lexemes.now))
         (λ to. Ok (c, drop to lexemes.now)) }
 {
@@ -421,7 +426,8 @@ fn bracketed(
     from: usize,
     depth: usize,
 ) -> Result<(Constraint, usize), PatternFault>
-    ensures goes { GoesOn result (run depth start (drop from lexemes.now)) (λ x. Ok (x.0, drop x.1 lexemes.now)) }
+    ensures goes { GoesOn result (run depth start (drop from lexemes.now))
+        (λ x. Ok (x.0, drop x.1 lexemes.now)) }
     ensures on { IfOk result (λ x. (from < x.1) × (x.1 ≤ length lexemes.now)) }
 {
     match next(lexemes, from) {
@@ -451,9 +457,11 @@ pub fn constraint_at(
     depth: usize,
 ) -> Result<(Constraint, usize), PatternFault>
     ensures value { IfOk result (λ x. IsReadFrom depth lexemes.now from x.0 x.1) }
-    ensures fault { IsEnded plain (drop from lexemes.now) → IfBad result (IsConstraintFault depth (drop from lexemes.now)) }
+    ensures fault { IsEnded plain (drop from lexemes.now) →
+        IfBad result (IsConstraintFault depth (drop from lexemes.now)) }
     // What a machine that contains the machine of constraints needs to know.
-    ensures goes { GoesOn result (run depth start (drop from lexemes.now)) (λ x. Ok (x.0, drop x.1 lexemes.now)) }
+    ensures goes { GoesOn result (run depth start (drop from lexemes.now))
+        (λ x. Ok (x.0, drop x.1 lexemes.now)) }
     ensures on { IfOk result (λ x. (from < x.1) × (x.1 ≤ length lexemes.now)) }
 {
     bracketed(alloc, lexemes, from, depth)
@@ -504,18 +512,22 @@ pub fn parse_constraint(
 ) -> Result<(Constraint, usize), PatternFault>
     requires { IsEnded plain (drop from lexemes.now) }
     // A value is one that the lexemes there begin with, up to the place behind it.
-    ensures value { IfOk result (λ x. IsReadFrom (depth_before lexemes.now from) lexemes.now from x.0 x.1) }
+    ensures value { IfOk result
+        (λ x. IsReadFrom (depth_before lexemes.now from) lexemes.now from x.0 x.1) }
     // A fault is the first one.
     ensures fault { IfBad result (IsConstraintFault (depth_before lexemes.now from) (drop from lexemes.now)) }
     // Where a value stands, it is the answer, and where there is a first fault, that is, unless memory is refused.
     ensures only_value { (c : Constraint) (count : ℕ) →
-        IsConstraintRead (depth_before lexemes.now from) (drop from lexemes.now) c count → Gives result c (from + count) }
+        IsConstraintRead (depth_before lexemes.now from) (drop from lexemes.now) c count →
+        Gives result c (from + count) }
     ensures only_fault { (at : ℕ) (k : PatternKind) →
-        IsConstraintFault (depth_before lexemes.now from) (drop from lexemes.now) at k → Refuses result at k }
+        IsConstraintFault (depth_before lexemes.now from) (drop from lexemes.now) at k →
+        Refuses result at k }
     // A constraint that is written out reads back as itself, where it keeps the limits.
     ensures reads_back { (c : Constraint) (behind : List LexKind) →
         IsWritable c → kinds plain (drop from lexemes.now) ≡ written c ++ behind →
-        Keeps (BreaksRule (depth_before lexemes.now from)) (written c) → Gives result c (from + length (written c)) }
+        Keeps (BreaksRule (depth_before lexemes.now from)) (written c) →
+        Gives result c (from + length (written c)) }
     // One of the two always stands, and never both.
     ensures one_answer { OneConstraint (depth_before lexemes.now from) (drop from lexemes.now) }
 {

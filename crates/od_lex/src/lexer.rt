@@ -88,7 +88,8 @@ pub fn lex(alloc: Global, text: &str) -> Result<Lexed, NoMemory>
     requires { length text.now < 2 ^ 32 }
     ensures value { IfOk result (λ read. Lexes 0 (chars_in text.now) read.lexemes.items read.fault) }
     // They are those that are computed.
-    ensures computed { IfOk result (λ read. lexed (chars_in text.now) ≡ (read.lexemes.items, read.fault)) }
+    ensures computed { IfOk result
+        (λ read. lexed (chars_in text.now) ≡ (read.lexemes.items, read.fault)) }
     // There is exactly one such reading.
     ensures one_reading { OneReading (chars_in text.now) }
 {
@@ -104,7 +105,8 @@ pub fn tokens(alloc: Global, text: &str) -> Result<Vec<Lexeme>, LexFault>
     ensures value { IfOk result (λ v. Lexes 0 (chars_in text.now) v.items None) }
     ensures fault { IfMiss result (IsLexFault (chars_in text.now)) }
     // Where the text can be split, the lexemes are the answer; where it has a fault, that is, unless memory is refused.
-    ensures only_value { (xs : List Lexeme) → Lexes 0 (chars_in text.now) xs None → GivesLexemes result xs }
+    ensures only_value { (xs : List Lexeme) → Lexes 0 (chars_in text.now) xs None →
+        GivesLexemes result xs }
     ensures only_fault { (xs : List Lexeme) (at : ℕ) (m : Miss) →
         Lexes 0 (chars_in text.now) xs (Some (at, m)) → RefusesText result at m }
     // One of the two always holds, and never both.

@@ -20,7 +20,8 @@ pub fn chars_of(alloc: Global, text: &str) -> Result<Vec<char>, NoMemory>
 }
 
 pub fn at(chars: &[char], i: usize) -> Option<char>
-    ensures { MatchOption result (drop i chars.now ≡ []) (λ c. (drop i chars.now ≡ c ∷ drop (i + 1) chars.now) × (i < length chars.now)) }
+    ensures { MatchOption result (drop i chars.now ≡ [])
+        (λ c. (drop i chars.now ≡ c ∷ drop (i + 1) chars.now) × (i < length chars.now)) }
 {
     chars.get(i).copied()
 }

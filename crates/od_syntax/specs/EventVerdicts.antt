@@ -1,7 +1,6 @@
 -- Event patterns as values of their texts, or the first fault.
-use Rattle.std.specs.Prelude.{ℕ, Bool, true, false, if◌then◌else◌, List, [], ◌∷◌, ◌++◌, Option, Some, None, Result, Ok, Err}
+use Rattle.std.specs.Prelude.{ℕ, Bool, true, false, List, [], ◌∷◌, ◌++◌, Option, Some, None, Ok, Err}
 use Rattle.od_pattern.specs.declared.pattern.Surface.{Surface}
-use Rattle.od_pattern.specs.declared.path.Path.{Path}
 use Rattle.od_pattern.specs.declared.rule.Argument.{Argument}
 use Rattle.od_pattern.specs.declared.rule.EventRule.{EventRule}
 use Rattle.od_language.specs.declared.pattern_fault.PatternKind.TheVariants as kind

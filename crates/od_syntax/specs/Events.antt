@@ -85,7 +85,8 @@ abbrev pub joined_to : ℕ → List (List ℕ) → List (List ℕ)
 joined_to c [] = (c ∷ []) ∷ []
 joined_to c (p ∷ ps) = (c ∷ p) ∷ ps
 
--- the pieces of a head: runs of characters of identifiers, and other characters one by one; white space separates
+-- the pieces of a head: runs of characters of identifiers, and other characters one by one; white space
+-- separates
 abbrev pub pieces : List ℕ → List (List ℕ)
 pieces [] = []
 pieces (c ∷ cs) =
@@ -153,12 +154,14 @@ argument_line line = argument_cut (cut_from line.at line.text)
 
 -- a line is the trigger's, with this surface
 pub data IsTrigger (line : Line) : Surface → Type 0 where
-  trigger : (at : ℕ) (text : List ℕ) (p : Surface) → trigger_line line ≡ Some (at, text) → IsSurface at text p → IsTrigger line p
+  trigger : (at : ℕ) (text : List ℕ) (p : Surface) → trigger_line line ≡ Some (at, text) →
+      IsSurface at text p → IsTrigger line p
 
 -- what is wrong with the trigger's line: its head, else the text behind
 pub data IsTriggerFault (line : Line) : ℕ → PatternKind → Type 0 where
   unheaded : trigger_line line ≡ None → IsTriggerFault line line.at kind.Expected
-  behind : (at : ℕ) (text : List ℕ) → trigger_line line ≡ Some (at, text) → (place : ℕ) (k : PatternKind) →
+  behind : (at : ℕ) (text : List ℕ) → trigger_line line ≡ Some (at, text) →
+      (place : ℕ) (k : PatternKind) →
       IsSurfaceFault at text place k → IsTriggerFault line place k
 
 -- an argument of this head, with a path
@@ -168,29 +171,34 @@ argument head p = record { name = head.name; label = head.label; many = head.man
 module _ (names : List (List ℕ)) (line : Line) where
   -- a line is an argument's, where these names are taken
   pub data IsArgument : Argument → Type 0 where
-    one : (head : Head) (at : ℕ) (text : List ℕ) (p : Path) → argument_line line ≡ Some (head, at, text) →
+    one : (head : Head) (at : ℕ) (text : List ℕ) (p : Path) →
+        argument_line line ≡ Some (head, at, text) →
         is_one_of names head.name ≡ false → IsPath at text p → IsArgument (argument head p)
 
-  -- what is wrong with an argument's line: its head, else its name, which is taken, else the text behind
+  -- what is wrong with an argument's line: its head, else its name, which is taken, else the text
+  -- behind
   pub data IsArgumentFault : ℕ → PatternKind → Type 0 where
     nameless : argument_line line ≡ None → IsArgumentFault line.at kind.Expected
     again : (head : Head) (at : ℕ) (text : List ℕ) → argument_line line ≡ Some (head, at, text) →
         is_one_of names head.name ≡ true → IsArgumentFault line.at kind.SameCapture
     behind : (head : Head) (at : ℕ) (text : List ℕ) → argument_line line ≡ Some (head, at, text) →
-        is_one_of names head.name ≡ false → (place : ℕ) (k : PatternKind) → IsPathFault at text place k → IsArgumentFault place k
+        is_one_of names head.name ≡ false → (place : ℕ) (k : PatternKind) →
+        IsPathFault at text place k → IsArgumentFault place k
 
 -- the arguments of lines, where these names are taken
 pub data AreArguments : List (List ℕ) → List Line → List Argument → Type 0 where
   none : (names : List (List ℕ)) → AreArguments names [] []
   more : (names : List (List ℕ)) (line : Line) (others : List Line) (a : Argument) (found : List Argument) →
-      IsArgument names line a → AreArguments (names ++ a.name ∷ []) others found → AreArguments names (line ∷ others) (a ∷ found)
+      IsArgument names line a → AreArguments (names ++ a.name ∷ []) others found →
+      AreArguments names (line ∷ others) (a ∷ found)
 
 -- the first line with a fault decides
 pub data IsArgumentsFault : List (List ℕ) → List Line → ℕ → PatternKind → Type 0 where
   here : (names : List (List ℕ)) (line : Line) (others : List Line) (at : ℕ) (k : PatternKind) →
       IsArgumentFault names line at k → IsArgumentsFault names (line ∷ others) at k
   later : (names : List (List ℕ)) (line : Line) (others : List Line) (a : Argument) (at : ℕ) (k : PatternKind) →
-      IsArgument names line a → IsArgumentsFault (names ++ a.name ∷ []) others at k → IsArgumentsFault names (line ∷ others) at k
+      IsArgument names line a → IsArgumentsFault (names ++ a.name ∷ []) others at k →
+      IsArgumentsFault names (line ∷ others) at k
 
 -- lines are an event rule: the trigger's first, then the arguments'
 pub data IsEvent : List Line → EventRule → Type 0 where
@@ -200,8 +208,10 @@ pub data IsEvent : List Line → EventRule → Type 0 where
 -- the first fault of lines; a text without a line of its own ends too early
 pub data IsEventFault (end : ℕ) : List Line → ℕ → PatternKind → Type 0 where
   none : IsEventFault end [] end kind.Expected
-  trigger : (line : Line) (others : List Line) (at : ℕ) (k : PatternKind) → IsTriggerFault line at k → IsEventFault end (line ∷ others) at k
-  arguments : (line : Line) (others : List Line) (p : Surface) (at : ℕ) (k : PatternKind) → IsTrigger line p →
+  trigger : (line : Line) (others : List Line) (at : ℕ) (k : PatternKind) →
+      IsTriggerFault line at k → IsEventFault end (line ∷ others) at k
+  arguments : (line : Line) (others : List Line) (p : Surface) (at : ℕ) (k : PatternKind) →
+      IsTrigger line p →
       IsArgumentsFault (captures p) others at k → IsEventFault end (line ∷ others) at k
 
 -- a text is an event pattern
@@ -210,4 +220,5 @@ IsEventText cs = IsSmall (IsEvent (own_lines cs)) event_size
 
 -- the first fault of a text that is none
 abbrev pub IsEventTextFault : List ℕ → ℕ → PatternKind → Type 0
-IsEventTextFault cs = IsFaultOrBig (IsEvent (own_lines cs)) (IsEventFault (size_of cs) (own_lines cs)) event_size
+IsEventTextFault cs =
+    IsFaultOrBig (IsEvent (own_lines cs)) (IsEventFault (size_of cs) (own_lines cs)) event_size

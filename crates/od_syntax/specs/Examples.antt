@@ -33,7 +33,8 @@ opened_at (x ∷ more) = if_opened x.told x.at (opened_at more)
 abbrev pub OpensSteps : List ℕ → List ℕ → Type 0
 OpensSteps text places = opened_at (told (lexed text).0) ≡ places
 
--- Faults come in the order of the text, the lexer's too; a word is an unknown field only in a field's place.
+-- Faults come in the order of the text, the lexer's too; a word is an unknown field only in a field's
+-- place.
 pub record SurfaceExamples : Type 0 where
   pub empty : NoSurface (codes "") 0 kind.Expected
   pub blank : NoSurface (codes " ") 1 kind.Expected
@@ -66,7 +67,8 @@ pub record PathExamples : Type 0 where
   pub choice : NoPath (codes ">x|") 3 kind.Expected
   pub not_closed : NoPath (codes "(>x") 3 kind.Expected
 
--- The head of a line is tested first, at the line's beginning, then the name, then the text behind, which ends with its line.
+-- The head of a line is tested first, at the line's beginning, then the name, then the text behind,
+-- which ends with its line.
 pub record EventExamples : Type 0 where
   pub empty : NoEvent (codes "") 0 kind.Expected
   pub blank : NoEvent (codes " \n ") 3 kind.Expected
@@ -78,7 +80,8 @@ pub record EventExamples : Type 0 where
   pub no_label : NoEvent (codes "trigger = a\nx:1 = >d") 12 kind.Expected
   pub text_ends_at_its_line : NoEvent (codes "trigger = a \"b\n\" c") 12 kind.Lex
 
--- A bracket opens steps where an arrow is the first lexeme behind it that is no `(`, and no constraint is open.
+-- A bracket opens steps where an arrow is the first lexeme behind it that is no `(`, and no constraint
+-- is open.
 pub record StepsExamples : Type 0 where
   pub at_the_beginning : OpensSteps (codes "(>x) a") (0 ∷ [])
   pub in_a_surface : OpensSteps (codes "a (b (>x)) c") (5 ∷ [])

@@ -1,6 +1,7 @@
--- The grammars of steps and of hops, over lexemes told apart. `Hops may lexemes hop rest`: a front of the lexemes is a hop,
+-- The grammars of steps and of hops, over lexemes told apart. `Hops may lexemes hop rest`: a front of
+-- the lexemes is a hop,
 -- and the rest follows; its bodies may be repeated where `may` is true.
-use Rattle.std.specs.Prelude.{◌≡◌, ℕ, Bool, List, [], ◌∷◌, ◌++◌, Option}
+use Rattle.std.specs.Prelude.{ℕ, Bool, List, [], ◌∷◌, ◌++◌, Option}
 use Rattle.od_pattern.specs.declared.pattern.Surface.{Surface}
 use Rattle.od_pattern.specs.declared.pattern.Surface.TheVariants as surface
 use Rattle.od_pattern.specs.declared.path.Path.{Path}
@@ -21,9 +22,11 @@ use Rattle.od_syntax.specs.Sizes.{may_repeat, may_always}
 use Rattle.od_syntax.specs.Surfaces.{SurfaceParts, Surfaces}
 use Rattle.od_syntax.specs.Told.{Told, lexeme, steps_open, as_told, untold, all_untold}
 
--- atom := '>' value | '<' value | '>>' | '<<' | '(' paths ')', where the bracket opens steps; inside it each `(` is a path's
+-- atom := '>' value | '<' value | '>>' | '<<' | '(' paths ')', where the bracket opens steps; inside it
+-- each `(` is a path's
 pub data StepAtom : List Told → Path → List Told → Type 0 where
-  step : (word : List LexKind) (p : Path) (rest : List Told) → Step word p [] → StepAtom (as_told word ++ rest) p rest
+  step : (word : List LexKind) (p : Path) (rest : List Told) → Step word p [] →
+      StepAtom (as_told word ++ rest) p rest
   group : (word : List Told) (p : Path) (rest : List Told) → Paths (all_untold word) p [] →
       StepAtom (steps_open ∷ (word ++ lexeme RoundClose ∷ rest)) p rest
 
@@ -31,7 +34,8 @@ pub data StepAtom : List Told → Path → List Told → Type 0 where
 pub data StepPart : List Told → Path → List Told → Type 0 where
   once : (l : List Told) (p : Path) (rest : List Told) → StepAtom l p rest → StepPart l p rest
   repeated : (l : List Told) (p : Path) (x : LexKind) (least : ℕ) (most : Option ℕ) (rest : List Told) →
-      StepAtom l p (lexeme x ∷ rest) → IsQuantifier x least most → StepPart l (path.Repeat p least most) rest
+      StepAtom l p (lexeme x ∷ rest) → IsQuantifier x least most →
+      StepPart l (path.Repeat p least most) rest
 
 -- part+
 pub data StepParts : List Told → List Path → List Told → Type 0 where
@@ -41,7 +45,8 @@ pub data StepParts : List Told → List Path → List Told → Type 0 where
 
 -- steps := part+, without choices outside brackets
 pub data Steps : List Told → Path → List Told → Type 0 where
-  all : (l : List Told) (ps : List Path) (rest : List Told) → StepParts l ps rest → Steps l (one_or path.Seq ps) rest
+  all : (l : List Told) (ps : List Path) (rest : List Told) → StepParts l ps rest →
+      Steps l (one_or path.Seq ps) rest
 
 -- the rules of steps, before which so many brackets are open
 abbrev pub BreaksSteps : ℕ → Rules Told
@@ -73,4 +78,5 @@ rule_untold rule front x = rule (all_untold front) (untold x)
 
 -- the rules of a hop are those of a surface
 abbrev pub BreaksHop : Rules Told
-BreaksHop = BreaksInOrder (Hops may_always) (Hops may_repeat) (rule_untold bad_range) kind.NullableRepeat (rule_untold capture_or_own)
+BreaksHop =
+    BreaksInOrder (Hops may_always) (Hops may_repeat) (rule_untold bad_range) kind.NullableRepeat (rule_untold capture_or_own)

@@ -1,9 +1,9 @@
--- A path read one lexeme at a time: a means of proof, and of computing. No definition of the language speaks of it.
-use Rattle.std.specs.Prelude.{◌≡◌, ℕ, Bool, true, false, List, [], ◌∷◌, ◌++◌, Option, Some, None, Result, Ok, Err}
+-- A path read one lexeme at a time: a means of proof, and of computing. No definition of the language
+-- speaks of it.
+use Rattle.std.specs.Prelude.{◌≡◌, Bool, true, false, List, [], ◌∷◌, ◌++◌, Option, Some, None, Result, Ok, Err}
 use Rattle.od_pattern.specs.declared.pattern.Value.{Value}
 use Rattle.od_pattern.specs.declared.pattern.Value.TheVariants.{Plain}
 use Rattle.od_pattern.specs.declared.pattern.Value.TheVariants as value
-use Rattle.od_pattern.specs.declared.pattern.Constraint.{Constraint}
 use Rattle.od_pattern.specs.declared.path.Path.{Path}
 use Rattle.od_pattern.specs.declared.path.Path.TheVariants as path
 use Rattle.od_language.specs.declared.pattern_fault.PatternKind.{PatternKind}
@@ -18,8 +18,10 @@ pub data Around : Type 0 where
   top : Around
   round : List Path → List Path → Around → Around
 
--- Where the reading stands; a are the choices that are whole, s the parts of the one that is not, k the open brackets.
--- `part` behind an atom, `turned` behind a part, `listed` behind a choice, `whole` behind a path: each takes what is its own, and what the next one takes.
+-- Where the reading stands; a are the choices that are whole, s the parts of the one that is not, k the
+-- open brackets.
+-- `part` behind an atom, `turned` behind a part, `listed` behind a choice, `whole` behind a path: each
+-- takes what is its own, and what the next one takes.
 pub data State : Type 0 where
   atom : List Path → List Path → Around → State
   label : Bool → List Path → List Path → Around → State
@@ -43,7 +45,8 @@ edge true v = path.Along v
 edge false v = path.Against v
 
 -- on from a constraint
-abbrev pub carried : Result constraint.State PatternKind → List Path → List Path → Around → Result State PatternKind
+abbrev pub carried : Result constraint.State PatternKind → List Path → List Path → Around →
+    Result State PatternKind
 carried (Ok (constraint.done c)) a s k = Ok (part (path.Filter c) a s k)
 carried (Ok t) a s k = Ok (inside t a s k)
 carried (Err e) a s k = Err e
@@ -123,11 +126,13 @@ ended s = None
 
 -- no quantifier
 abbrev pub NoTurnsAt : LexKind → Type 0
-NoTurnsAt x = (p : Path) (a s : List Path) (k : Around) → step_part x p a s k ≡ step_turned x a (s ++ p ∷ []) k
+NoTurnsAt x =
+    (p : Path) (a s : List Path) (k : Around) → step_part x p a s k ≡ step_turned x a (s ++ p ∷ []) k
 
 -- no atom
 abbrev pub NoAtomAt : LexKind → Type 0
-NoAtomAt x = (a s : List Path) (k : Around) → step_turned x a s k ≡ step_listed x (a ++ in_order s ∷ []) k
+NoAtomAt x =
+    (a s : List Path) (k : Around) → step_turned x a s k ≡ step_listed x (a ++ in_order s ∷ []) k
 
 -- no choice
 abbrev pub NoChoiceAt : LexKind → Type 0

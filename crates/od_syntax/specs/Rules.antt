@@ -1,6 +1,6 @@
--- The rules of surface patterns: in the order BadRange, NullableRepeat, SameCapture, RegexLong, TooDeep.
-use Rattle.std.specs.Prelude.{◌≡◌, ℕ, Bool, false, ◌||◌, if◌then◌else◌, List, [], ◌∷◌, Option, Some, None}
-use Rattle.od_language.specs.declared.pattern_fault.PatternKind.{PatternKind}
+-- The rules of surface patterns: in the order BadRange, NullableRepeat, SameCapture, RegexLong,
+-- TooDeep.
+use Rattle.std.specs.Prelude.{ℕ, Bool, false, ◌||◌, if◌then◌else◌, List, [], ◌∷◌, Some, None}
 use Rattle.od_language.specs.declared.pattern_fault.PatternKind.TheVariants as kind
 use Rattle.od_language.specs.declared.lexeme.LexKind.{LexKind}
 use Rattle.od_language.specs.declared.lexeme.LexKind.TheVariants.{NameOpen, Range}
@@ -34,7 +34,9 @@ capture_or_own front (NameOpen name) =
     if is_one_of (opened_names front) name then Some kind.SameCapture else broken_rule (depth_after 0 front) (NameOpen name)
 capture_or_own front x = broken_rule (depth_after 0 front) x
 
--- Behind a front a lexeme of a surface breaks a rule. NullableRepeat stands where a surface goes on whose bodies are any,
+-- Behind a front a lexeme of a surface breaks a rule. NullableRepeat stands where a surface goes on
+-- whose bodies are any,
 -- but none in which only bodies that take a token are repeated without a most.
 abbrev pub BreaksSurface : Rules LexKind
-BreaksSurface = BreaksInOrder (Surfaces may_always) (Surfaces may_repeat) bad_range kind.NullableRepeat capture_or_own
+BreaksSurface =
+    BreaksInOrder (Surfaces may_always) (Surfaces may_repeat) bad_range kind.NullableRepeat capture_or_own

@@ -1,5 +1,6 @@
 -- Which surface patterns may match no token, and how large patterns are.
--- A size bounds the instructions that a pattern is run by: what stands in a repeat counts once for each turn.
+-- A size bounds the instructions that a pattern is run by: what stands in a repeat counts once for each
+-- turn.
 use Rattle.std.specs.Prelude.{ℕ, suc, ◌+◌, ◌*◌, Bool, true, false, not, ◌&&◌, ◌||◌, ◌==◌, if◌then◌else◌, nat_lt, List, [], ◌∷◌, Option, Some, None}
 use Rattle.od_language.specs.declared.limits.TheConstants.{PATTERN_SIZE}
 use Rattle.od_pattern.specs.declared.pattern.Surface.{Surface, Row_of-Surface, end_of-Surface, more_of-Surface}
@@ -12,7 +13,8 @@ use Rattle.od_pattern.specs.declared.rule.Argument.{Argument}
 use Rattle.od_pattern.specs.declared.rule.EventRule.{EventRule}
 
 abbrev mutual
-  -- looks, `^`, `$`, a repeat with least 0 or such a body, such parts one after another, a choice with such a part, a capture of such a body
+  -- looks, `^`, `$`, a repeat with least 0 or such a body, such parts one after another, a choice with
+  -- such a part, a capture of such a body
   pub is_nullable : Surface → Bool
   is_nullable (Token c) = false
   is_nullable (Label name) = false
@@ -55,7 +57,8 @@ abbrev mutual
   surface_size Last = 1
   surface_size (Seq' v row) = order_size row
   surface_size (Alt' v row) = choice_size row
-  surface_size (Repeat' v (more_of-Surface p end_of-Surface) turns) = repeat_size turns.least turns.most (surface_size p)
+  surface_size (Repeat' v (more_of-Surface p end_of-Surface) turns) =
+      repeat_size turns.least turns.most (surface_size p)
   surface_size (Capture' name v (more_of-Surface p end_of-Surface)) = 2 + surface_size p
 
   pub order_size : {m : _} → Row_of-Surface m → ℕ
@@ -74,7 +77,8 @@ abbrev mutual
   path_size (path.Filter c) = 1
   path_size (path.Seq' v row) = path_order_size row
   path_size (path.Alt' v row) = path_choice_size row
-  path_size (path.Repeat' v (more_of-Path p end_of-Path) least most) = repeat_size least most (path_size p)
+  path_size (path.Repeat' v (more_of-Path p end_of-Path) least most) =
+      repeat_size least most (path_size p)
 
   pub path_order_size : {m : _} → Row_of-Path m → ℕ
   path_order_size end_of-Path = 0

@@ -1,5 +1,6 @@
--- A surface pattern read one lexeme at a time: a means of proof, and of computing. No definition of the language speaks of it.
-use Rattle.std.specs.Prelude.{◌≡◌, ℕ, Bool, true, false, ◌==◌, if◌then◌else◌, List, [], ◌∷◌, ◌++◌, Option, Some, None, Result, Ok, Err}
+-- A surface pattern read one lexeme at a time: a means of proof, and of computing. No definition of the
+-- language speaks of it.
+use Rattle.std.specs.Prelude.{◌≡◌, ℕ, Bool, true, false, if◌then◌else◌, List, [], ◌∷◌, ◌++◌, Option, Some, None, Result, Ok, Err}
 use Rattle.od_pattern.specs.declared.pattern.Field.TheVariants.{Norm}
 use Rattle.od_pattern.specs.declared.pattern.Value.{Value}
 use Rattle.od_pattern.specs.declared.pattern.Value.TheVariants.{Plain}
@@ -17,7 +18,8 @@ use Rattle.od_language.specs.Identifier.{is_identifier}
 use Rattle.od_syntax.specs.Parts.{one_or}
 use Rattle.od_language.specs.ConstraintMachine as constraint
 
--- the brackets that are open, the innermost first, each with the capture's name, if it opens one, and the choices and the parts before it
+-- the brackets that are open, the innermost first, each with the capture's name, if it opens one, and
+-- the choices and the parts before it
 pub data Around : Type 0 where
   top : Around
   round : Option (List ℕ) → List Surface → List Surface → Around → Around
@@ -26,8 +28,10 @@ pub data Around : Type 0 where
 abbrev pub Looking : Type 0
 Looking = Option (Bool × Bool)
 
--- Where the reading stands; a are the choices that are whole, s the parts of the one that is not, k the open brackets.
--- `part` behind an atom, `counted` behind a quantifier, `turned` behind a part, `listed` behind a choice, `whole` behind a surface: each takes what is its own, and what the next one takes.
+-- Where the reading stands; a are the choices that are whole, s the parts of the one that is not, k the
+-- open brackets.
+-- `part` behind an atom, `counted` behind a quantifier, `turned` behind a part, `listed` behind a
+-- choice, `whole` behind a surface: each takes what is its own, and what the next one takes.
 pub data State : Type 0 where
   atom : List Surface → List Surface → Around → State
   name : List Surface → List Surface → Around → State
@@ -67,7 +71,8 @@ filled None c a s k = part (surface.Token c) a s k
 filled (Some w) c a s k = looked w c a s k
 
 -- on from a constraint
-abbrev pub carried : Result constraint.State PatternKind → Looking → List Surface → List Surface → Around → Result State PatternKind
+abbrev pub carried : Result constraint.State PatternKind → Looking → List Surface → List Surface →
+    Around → Result State PatternKind
 carried (Ok (constraint.done c)) w a s k = Ok (filled w c a s k)
 carried (Ok t) w a s k = Ok (inside w t a s k)
 carried (Err e) w a s k = Err e
@@ -100,17 +105,20 @@ step_name (Word t) a s k = named_if (is_identifier t) t a s k
 step_name x a s k = Err kind.Expected
 
 -- behind the opening of a look
-abbrev pub step_look : LexKind → Bool × Bool → List Surface → List Surface → Around → Result State PatternKind
+abbrev pub step_look : LexKind → Bool × Bool → List Surface → List Surface → Around →
+    Result State PatternKind
 step_look SquareOpen w a s k = Ok (inside (Some w) constraint.first a s k)
 step_look x w a s k = Err kind.Expected
 
 -- behind the constraint of a look
-abbrev pub step_looked : LexKind → Bool × Bool → Constraint → List Surface → List Surface → Around → Result State PatternKind
+abbrev pub step_looked : LexKind → Bool × Bool → Constraint → List Surface → List Surface → Around →
+    Result State PatternKind
 step_looked RoundClose w c a s k = Ok (part (surface.Look w.0 w.1 c) a s k)
 step_looked x w c a s k = Err kind.Expected
 
 -- behind a surface in brackets
-abbrev pub step_closed : LexKind → Option (List ℕ) → Surface → List Surface → List Surface → Around → Result State PatternKind
+abbrev pub step_closed : LexKind → Option (List ℕ) → Surface → List Surface → List Surface → Around →
+    Result State PatternKind
 step_closed RoundClose o p a s k = Ok (part (closed o p) a s k)
 step_closed x o p a s k = Err kind.Expected
 
@@ -143,21 +151,25 @@ begins_atom x = false
 
 -- behind a part
 abbrev pub step_turned : LexKind → List Surface → List Surface → Around → Result State PatternKind
-step_turned x a s k = if begins_atom x then step_atom x a s k else step_listed x (a ++ in_order s ∷ []) k
+step_turned x a s k =
+    if begins_atom x then step_atom x a s k else step_listed x (a ++ in_order s ∷ []) k
 
 -- behind a quantifier
-abbrev pub step_counted : LexKind → Surface → ℕ → Option ℕ → List Surface → List Surface → Around → Result State PatternKind
+abbrev pub step_counted : LexKind → Surface → ℕ → Option ℕ → List Surface → List Surface → Around →
+    Result State PatternKind
 step_counted Question p least most a s k = Ok (turned a (s ++ repeat p least most true ∷ []) k)
 step_counted x p least most a s k = step_turned x a (s ++ repeat p least most false ∷ []) k
 
 -- a quantifier, if the body may be repeated so
-abbrev pub counted_if : Bool → Surface → ℕ → Option ℕ → List Surface → List Surface → Around → Result State PatternKind
+abbrev pub counted_if : Bool → Surface → ℕ → Option ℕ → List Surface → List Surface → Around →
+    Result State PatternKind
 counted_if true p least most a s k = Ok (counted p least most a s k)
 counted_if false p least most a s k = Err kind.NullableRepeat
 
 module _ (may : Surface → Option ℕ → Bool) where
   -- behind an atom
-  abbrev pub step_part : LexKind → Surface → List Surface → List Surface → Around → Result State PatternKind
+  abbrev pub step_part : LexKind → Surface → List Surface → List Surface → Around →
+      Result State PatternKind
   step_part Question p a s k = counted_if (may p (Some 1)) p 0 (Some 1) a s k
   step_part Star p a s k = counted_if (may p None) p 0 None a s k
   step_part Plus p a s k = counted_if (may p None) p 1 None a s k
@@ -185,7 +197,8 @@ at_top p (round o a s k) = None
 -- the pattern, where the machine may end
 abbrev pub ended : State → Option Surface
 ended (part p a s k) = at_top (any_of (a ++ in_order (s ++ p ∷ []) ∷ [])) k
-ended (counted p least most a s k) = at_top (any_of (a ++ in_order (s ++ repeat p least most false ∷ []) ∷ [])) k
+ended (counted p least most a s k) =
+    at_top (any_of (a ++ in_order (s ++ repeat p least most false ∷ []) ∷ [])) k
 ended (turned a s k) = at_top (any_of (a ++ in_order s ∷ [])) k
 ended (listed a k) = at_top (any_of a) k
 ended (whole p k) = at_top p k
@@ -217,7 +230,8 @@ repeat_rule may s x = None
 
 -- no quantifier
 abbrev pub NoTurnsAt : LexKind → Type 0
-NoTurnsAt x = (may : Surface → Option ℕ → Bool) (p : Surface) (a s : List Surface) (k : Around) → step_part may x p a s k ≡ step_turned x a (s ++ p ∷ []) k
+NoTurnsAt x =
+    (may : Surface → Option ℕ → Bool) (p : Surface) (a s : List Surface) (k : Around) → step_part may x p a s k ≡ step_turned x a (s ++ p ∷ []) k
 
 -- no atom
 abbrev pub NoAtomAt : LexKind → Type 0

@@ -1,4 +1,5 @@
--- Surface patterns, paths and hops as whole texts: the value, or the first fault in the order of the text.
+-- Surface patterns, paths and hops as whole texts: the value, or the first fault in the order of the
+-- text.
 use Rattle.std.specs.Prelude.{ℕ, List, Option, Some, None}
 use Rattle.od_pattern.specs.declared.pattern.Surface.{Surface}
 use Rattle.od_pattern.specs.declared.path.Path.{Path}
@@ -8,7 +9,7 @@ use Rattle.od_language.specs.declared.pattern_fault.PatternKind.{PatternKind}
 use Rattle.od_language.specs.Alphabet.{plain}
 use Rattle.od_language.specs.Depth.{BreaksRule}
 use Rattle.od_language.specs.Lexed.{lexed_from}
-use Rattle.od_language.specs.Whole.{IsWhole, IsWholeFault, IsSmall, IsFaultOrBig, OneOf}
+use Rattle.od_language.specs.Whole.{IsWhole, IsWholeFault, IsSmall, IsFaultOrBig}
 use Rattle.od_syntax.specs.Hops.{Hops, BreaksHop}
 use Rattle.od_syntax.specs.Paths.{Paths}
 use Rattle.od_syntax.specs.Rules.{BreaksSurface}
@@ -24,25 +25,30 @@ stuck_at (Some fault) = Some fault.0
 module _ (at : ℕ) (cs : List ℕ) where
   -- characters that begin at a place are a surface, whatever its size
   abbrev pub IsSurface : Surface → Type 0
-  IsSurface = IsWhole plain (Surfaces may_always) BreaksSurface (lexed_from at cs).0 (stuck_at (lexed_from at cs).1)
+  IsSurface =
+      IsWhole plain (Surfaces may_always) BreaksSurface (lexed_from at cs).0 (stuck_at (lexed_from at cs).1)
 
   -- their first fault
   abbrev pub IsSurfaceFault : ℕ → PatternKind → Type 0
-  IsSurfaceFault = IsWholeFault plain (Surfaces may_always) BreaksSurface (lexed_from at cs).0 (stuck_at (lexed_from at cs).1)
+  IsSurfaceFault =
+      IsWholeFault plain (Surfaces may_always) BreaksSurface (lexed_from at cs).0 (stuck_at (lexed_from at cs).1)
 
   -- the same of a path
   abbrev pub IsPath : Path → Type 0
   IsPath = IsWhole plain Paths (BreaksRule 0) (lexed_from at cs).0 (stuck_at (lexed_from at cs).1)
 
   abbrev pub IsPathFault : ℕ → PatternKind → Type 0
-  IsPathFault = IsWholeFault plain Paths (BreaksRule 0) (lexed_from at cs).0 (stuck_at (lexed_from at cs).1)
+  IsPathFault =
+      IsWholeFault plain Paths (BreaksRule 0) (lexed_from at cs).0 (stuck_at (lexed_from at cs).1)
 
   -- the same of a hop
   abbrev pub IsHop : Hop → Type 0
-  IsHop = IsWhole told_apart (Hops may_always) BreaksHop (told (lexed_from at cs).0) (stuck_at (lexed_from at cs).1)
+  IsHop =
+      IsWhole told_apart (Hops may_always) BreaksHop (told (lexed_from at cs).0) (stuck_at (lexed_from at cs).1)
 
   abbrev pub IsHopFault : ℕ → PatternKind → Type 0
-  IsHopFault = IsWholeFault told_apart (Hops may_always) BreaksHop (told (lexed_from at cs).0) (stuck_at (lexed_from at cs).1)
+  IsHopFault =
+      IsWholeFault told_apart (Hops may_always) BreaksHop (told (lexed_from at cs).0) (stuck_at (lexed_from at cs).1)
 
 -- a text is a surface pattern
 abbrev pub IsSurfaceText : List ℕ → Surface → Type 0

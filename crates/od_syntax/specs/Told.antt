@@ -1,5 +1,6 @@
--- The lexemes of a hop, in which each `(` is told apart: it opens steps, or it is a surface's or a constraint's.
-use Rattle.std.specs.Prelude.{◌≡◌, ℕ, Bool, true, false, if◌then◌else◌, List, [], ◌∷◌}
+-- The lexemes of a hop, in which each `(` is told apart: it opens steps, or it is a surface's or a
+-- constraint's.
+use Rattle.std.specs.Prelude.{ℕ, Bool, true, false, if◌then◌else◌, List, [], ◌∷◌}
 use Rattle.od_language.specs.declared.lexeme.Lexeme.{Lexeme}
 use Rattle.od_language.specs.declared.lexeme.LexKind.{LexKind}
 use Rattle.od_language.specs.declared.lexeme.LexKind.TheVariants.{Word, Equal, End, SquareOpen, SquareClose, RoundOpen, Along, Against, AnyAlong, AnyAgainst}
@@ -45,7 +46,8 @@ in_constraint within SquareOpen = true
 in_constraint within SquareClose = false
 in_constraint within x = within
 
--- what a lexeme is before others: a `(` opens steps where an arrow comes first, and no constraint is open
+-- what a lexeme is before others: a `(` opens steps where an arrow comes first, and no constraint is
+-- open
 abbrev pub told_of : Bool → LexKind → List LexKind → Told
 told_of false RoundOpen more = if leads_to_steps more then steps_open else lexeme RoundOpen
 told_of within x more = lexeme x

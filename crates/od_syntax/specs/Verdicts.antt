@@ -1,8 +1,7 @@
 -- Surface patterns and paths as values of their texts, or the first fault.
-use Rattle.std.specs.Prelude.{ℕ, List, [], Option}
+use Rattle.std.specs.Prelude.{ℕ, List, []}
 use Rattle.od_pattern.specs.declared.pattern.Surface.{Surface}
 use Rattle.od_pattern.specs.declared.path.Path.{Path}
-use Rattle.od_language.specs.declared.pattern_fault.PatternKind.{PatternKind}
 use Rattle.od_language.specs.declared.lexeme.LexKind.{LexKind}
 use Rattle.od_language.specs.Alphabet.{plain}
 use Rattle.od_language.specs.Depth.{broken_rule, depth_after}
@@ -25,7 +24,8 @@ path_start = path.atom [] [] path.top
 
 -- the rule that a lexeme of a surface breaks
 abbrev pub surface_rule : Rule LexKind
-surface_rule = rule_between surface_start (surface.step may_repeat) bad_range capture_or_own (surface.repeat_rule may_repeat)
+surface_rule =
+    rule_between surface_start (surface.step may_repeat) bad_range capture_or_own (surface.repeat_rule may_repeat)
 
 -- the rule that a lexeme of a path breaks
 abbrev pub path_rule : Rule LexKind
@@ -47,10 +47,12 @@ surface_of cs = sized surface_size (surface_at 0 cs)
 
 -- characters at a place, and texts, have exactly the verdict that is computed
 abbrev pub SurfacesAreComputed : Type 0
-SurfacesAreComputed = (at : ℕ) (cs : List ℕ) → IsVerdict (IsSurface at cs) (IsSurfaceFault at cs) (surface_at at cs)
+SurfacesAreComputed =
+    (at : ℕ) (cs : List ℕ) → IsVerdict (IsSurface at cs) (IsSurfaceFault at cs) (surface_at at cs)
 
 abbrev pub SurfaceTextsAreComputed : Type 0
-SurfaceTextsAreComputed = (cs : List ℕ) → IsVerdict (IsSurfaceText cs) (IsSurfaceTextFault cs) (surface_of cs)
+SurfaceTextsAreComputed =
+    (cs : List ℕ) → IsVerdict (IsSurfaceText cs) (IsSurfaceTextFault cs) (surface_of cs)
 
 abbrev pub PathsAreComputed : Type 0
 PathsAreComputed = (at : ℕ) (cs : List ℕ) → IsVerdict (IsPath at cs) (IsPathFault at cs) (path_at at cs)

@@ -1,9 +1,8 @@
 -- Whether lexemes begin with a word of a constraint does not depend on what follows the word.
-use Rattle.std.proofs.Common.{◌≡◌, ℕ, List, [], ◌∷◌, ◌++◌, refl, sym, ◌∙◌, ap, subst, append_assoc}
+use Rattle.std.proofs.Common.{◌≡◌, List, [], ◌∷◌, ◌++◌, refl, sym, ◌∙◌, ap, subst, append_assoc}
 use Rattle.od_language.specs.declared.lexeme.LexKind.{LexKind}
 use Rattle.od_language.specs.declared.lexeme.LexKind.TheVariants.{Word, SquareOpen, SquareClose, RoundOpen, RoundClose, And, Or, Not, Equal}
 use Rattle.od_pattern.specs.declared.pattern.Constraint.{Constraint}
-use Rattle.od_pattern.specs.declared.pattern.Constraint.TheVariants as constraint
 use Rattle.od_language.specs.Grammar.{Unary, negation, group, test, Ands, one, more, Ors, first, next, IsConstraint, empty, some}
 
 -- the word, and that it stands before anything

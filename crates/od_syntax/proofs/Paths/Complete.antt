@@ -1,11 +1,10 @@
 -- A word of the grammar takes the machine to its end.
-use Rattle.std.proofs.Common.{◌≡◌, ℕ, Bool, true, false, List, [], ◌∷◌, ◌++◌, Option, Some, None, Result, Ok, Err, refl, sym, ◌∙◌, ap, subst, append_assoc, append-nil}
+use Rattle.std.proofs.Common.{◌≡◌, ℕ, Bool, true, false, List, [], ◌∷◌, ◌++◌, Option, Some, Result, Ok, Err, refl, ◌∙◌, ap, subst, append_assoc, append-nil}
 use Rattle.od_pattern.specs.declared.pattern.Value.{Value}
 use Rattle.od_pattern.specs.declared.pattern.Constraint.{Constraint}
 use Rattle.od_pattern.specs.declared.path.Path.{Path}
 use Rattle.od_pattern.specs.declared.path.Path.TheVariants as path
 use Rattle.od_language.specs.declared.pattern_fault.PatternKind.{PatternKind}
-use Rattle.od_language.specs.declared.pattern_fault.PatternKind.TheVariants as kind
 use Rattle.od_language.specs.declared.lexeme.LexKind.{LexKind}
 use Rattle.od_language.specs.declared.lexeme.LexKind.TheVariants.{SquareOpen, RoundClose, Or}
 use Rattle.od_language.specs.Fields.{word, quoted, regex}
@@ -14,7 +13,7 @@ use Rattle.od_syntax.specs.Parts.{IsLabel, IsQuantifier, maybe, any, range}
 use Rattle.od_syntax.specs.Parts.{some as plus}
 use Rattle.od_syntax.specs.Paths.{Step, along, against, any_along, any_against, PathAtom, step as one_step, filter, group, PathPart, once, repeated, PathParts, last, more, PathChoices, final, next, Paths, choice}
 use Rattle.od_language.specs.Machine.{◌>>=◌, steps}
-use Rattle.od_language.proofs.Machine.{steps_append, bind_assoc, bind_same}
+use Rattle.od_language.proofs.Machine.{steps_append}
 use Rattle.od_language.specs.ConstraintMachine as constraint
 use Rattle.od_language.proofs.Constraints.Complete.{constraint_goes}
 use Rattle.od_syntax.specs.PathMachine.{Around, top, round, State, atom, label, inside, part, turned, listed, whole, in_order, any_of, edge, step, carried, step_atom, ended, NoTurnsAt, NoAtomAt, NoChoiceAt, IsAtomAt}

@@ -1,5 +1,5 @@
 -- What begins an atom.
-use Rattle.std.proofs.Common.{◌≡◌, ℕ, Bool, true, List, [], ◌∷◌, Option, Result, refl, ◌∙◌}
+use Rattle.std.proofs.Common.{◌≡◌, true, List, refl}
 use Rattle.od_pattern.specs.declared.path.Path.{Path}
 use Rattle.od_language.specs.declared.lexeme.LexKind.{LexKind}
 use Rattle.od_language.specs.declared.lexeme.LexKind.TheVariants.{SquareOpen, RoundOpen, Along, Against, AnyAlong, AnyAgainst}

@@ -1,5 +1,5 @@
 -- What takes the machine to its end is a word of the grammar.
-use Rattle.std.proofs.Common.{◌≡◌, ℕ, Bool, true, false, List, [], ◌∷◌, ◌++◌, Option, Some, None, Result, Ok, Err, refl, sym, ◌∙◌, ap, subst, append_assoc}
+use Rattle.std.proofs.Common.{◌≡◌, ℕ, Bool, true, false, List, [], ◌∷◌, ◌++◌, Option, Some, None, Result, Ok, Err, refl, sym, subst, append_assoc}
 use Rattle.od_pattern.specs.declared.pattern.Value.{Value}
 use Rattle.od_pattern.specs.declared.pattern.Value.TheVariants.{Plain}
 use Rattle.od_pattern.specs.declared.pattern.Value.TheVariants as value
@@ -7,13 +7,12 @@ use Rattle.od_pattern.specs.declared.pattern.Field.TheVariants.{Incoming}
 use Rattle.od_pattern.specs.declared.path.Path.{Path}
 use Rattle.od_pattern.specs.declared.path.Path.TheVariants as path
 use Rattle.od_language.specs.declared.pattern_fault.PatternKind.{PatternKind}
-use Rattle.od_language.specs.declared.pattern_fault.PatternKind.TheVariants as kind
 use Rattle.od_language.specs.declared.lexeme.LexKind.{LexKind}
 use Rattle.od_language.specs.declared.lexeme.LexKind.TheVariants.{Word, Quoted, Regex, Range, SquareOpen, RoundOpen, RoundClose, Or, Along, Against, AnyAlong, AnyAgainst, Question, Star, Plus}
 use Rattle.od_language.specs.Fields.{word, quoted, regex}
 use Rattle.od_syntax.specs.Parts.{IsLabel, IsQuantifier, maybe, any, range}
 use Rattle.od_syntax.specs.Parts.{some as plus}
-use Rattle.od_syntax.specs.Paths.{Step, along, against, any_along, any_against, PathAtom, step as one_step, filter, group, PathPart, once, repeated, PathParts, last, more, PathChoices, final, next, Paths, choice}
+use Rattle.od_syntax.specs.Paths.{along, against, any_along, any_against, PathAtom, step as one_step, filter, group, PathPart, once, repeated, PathParts, last, more, PathChoices, final, next, Paths, choice}
 use Rattle.od_language.specs.Machine.{◌>>=◌, steps}
 use Rattle.od_language.specs.ConstraintMachine as constraint
 use Rattle.od_language.proofs.Constraints.Sound as filtered

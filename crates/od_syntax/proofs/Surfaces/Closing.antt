@@ -1,12 +1,8 @@
 -- Each state can still be brought to the end; what does not fit a state begins no word.
-use Rattle.std.proofs.Common.{◌≡◌, ℕ, Bool, true, false, if◌then◌else◌, List, [], ◌∷◌, ◌++◌, Option, Some, None, Result, Ok, Err, refl, sym, ◌∙◌, ap, ◌⊎◌, inl, inr, subst, codes}
+use Rattle.std.proofs.Common.{◌≡◌, ℕ, Bool, false, List, [], ◌∷◌, ◌++◌, Option, Some, None, Ok, refl, ◌∙◌, ap, codes}
 use Rattle.od_pattern.specs.declared.pattern.Surface.{Surface}
 use Rattle.od_pattern.specs.declared.pattern.Surface.TheVariants as surface
 use Rattle.od_pattern.specs.declared.pattern.Constraint.{Constraint}
-use Rattle.od_pattern.specs.declared.pattern.Value.TheVariants.{Plain}
-use Rattle.od_pattern.specs.declared.pattern.Field.TheVariants.{Norm}
-use Rattle.od_language.specs.declared.pattern_fault.PatternKind.{PatternKind}
-use Rattle.od_language.specs.declared.pattern_fault.PatternKind.TheVariants as kind
 use Rattle.od_language.specs.declared.lexeme.LexKind.{LexKind}
 use Rattle.od_language.specs.declared.lexeme.LexKind.TheVariants.{Word, Caret, RoundClose, SquareOpen, SquareClose}
 use Rattle.od_language.specs.FirstFault.{Begins}
@@ -16,9 +12,8 @@ use Rattle.od_language.specs.ConstraintMachine as constraint
 use Rattle.od_language.proofs.Constraints.Closing as closing
 use Rattle.od_language.specs.ConstraintMachine.{NotDone}
 use Rattle.od_syntax.specs.Surfaces.{Surfaces}
-use Rattle.od_syntax.specs.SurfaceMachine.{Looking, Around, top, round, State, atom, name, look, inside, looked, part, counted, turned, listed, whole, in_order, any_of, norm, repeat, closed, filled, carried, step, ended}
-use Rattle.od_syntax.specs.SurfaceMachine as machine
-use Rattle.od_syntax.proofs.Surfaces.Complete.{inside_steps, word_goes}
+use Rattle.od_syntax.specs.SurfaceMachine.{Looking, Around, top, round, State, atom, name, look, inside, looked, part, counted, turned, listed, whole, in_order, any_of, repeat, closed, filled, step, ended}
+use Rattle.od_syntax.proofs.Surfaces.Complete.{inside_steps}
 use Rattle.od_syntax.proofs.Surfaces.Sound.{Holds, holds, word_of}
 
 module _ (may : Surface → Option ℕ → Bool) where

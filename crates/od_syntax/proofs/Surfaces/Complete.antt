@@ -1,5 +1,5 @@
 -- A word of the grammar takes the machine to its end.
-use Rattle.std.proofs.Common.{◌≡◌, ℕ, Bool, true, false, ◌+◌, if◌then◌else◌, List, [], ◌∷◌, ◌++◌, Option, Some, None, Result, Ok, Err, refl, sym, ◌∙◌, ap, subst, append_assoc, append-nil}
+use Rattle.std.proofs.Common.{◌≡◌, ℕ, Bool, true, false, if◌then◌else◌, List, [], ◌∷◌, ◌++◌, Option, Some, None, Result, Ok, Err, refl, ◌∙◌, ap, subst, append_assoc, append-nil}
 use Rattle.od_pattern.specs.declared.pattern.Field.TheVariants.{Norm}
 use Rattle.od_pattern.specs.declared.pattern.Value.{Value}
 use Rattle.od_pattern.specs.declared.pattern.Constraint.{Constraint}
@@ -7,11 +7,9 @@ use Rattle.od_pattern.specs.declared.pattern.Turns.{Turns}
 use Rattle.od_pattern.specs.declared.pattern.Surface.{Surface}
 use Rattle.od_pattern.specs.declared.pattern.Surface.TheVariants as surface
 use Rattle.od_language.specs.declared.pattern_fault.PatternKind.{PatternKind}
-use Rattle.od_language.specs.declared.pattern_fault.PatternKind.TheVariants as kind
 use Rattle.od_language.specs.declared.lexeme.LexKind.{LexKind}
 use Rattle.od_language.specs.declared.lexeme.LexKind.TheVariants.{SquareOpen, RoundClose, Or, Question}
 use Rattle.od_language.specs.Fields.{IsValue, word, quoted, regex}
-use Rattle.od_language.specs.Identifier.{is_identifier}
 use Rattle.od_language.specs.Grammar.{IsConstraint, empty, some}
 use Rattle.od_syntax.specs.Parts.{IsQuantifier, maybe, any, range}
 use Rattle.od_syntax.specs.Parts.{some as plus}

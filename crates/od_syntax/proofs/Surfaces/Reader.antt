@@ -1,5 +1,5 @@
 -- Why a lexeme is not taken, where any body may be repeated; and the machine reads the grammar.
-use Rattle.std.proofs.Common.{◌≡◌, ℕ, Bool, true, false, if◌then◌else◌, List, [], ◌∷◌, ◌++◌, Option, Some, None, Result, Ok, Err, refl, sym, ◌∙◌, ap, ◌⊎◌, inl, inr, subst, codes}
+use Rattle.std.proofs.Common.{◌≡◌, ℕ, Bool, true, false, if◌then◌else◌, List, [], ◌∷◌, ◌++◌, Option, Some, Result, Ok, Err, refl, sym, ◌∙◌, ap, inl, inr, subst, codes}
 use Rattle.od_pattern.specs.declared.pattern.Surface.{Surface}
 use Rattle.od_pattern.specs.declared.pattern.Surface.TheVariants as surface
 use Rattle.od_pattern.specs.declared.pattern.Constraint.{Constraint}

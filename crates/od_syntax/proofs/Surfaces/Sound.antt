@@ -1,15 +1,13 @@
 -- What takes the machine to its end is a word of the grammar.
-use Rattle.std.proofs.Common.{◌≡◌, ℕ, Bool, true, false, if◌then◌else◌, List, [], ◌∷◌, ◌++◌, Option, Some, None, Result, Ok, Err, refl, sym, ◌∙◌, ap, subst, append_assoc}
+use Rattle.std.proofs.Common.{◌≡◌, ℕ, Bool, true, false, if◌then◌else◌, List, [], ◌∷◌, ◌++◌, Option, Some, None, Result, Ok, Err, refl, sym, ◌∙◌, subst, append_assoc}
 use Rattle.od_pattern.specs.declared.pattern.Field.TheVariants.{Norm}
 use Rattle.od_pattern.specs.declared.pattern.Value.{Value}
 use Rattle.od_pattern.specs.declared.pattern.Value.TheVariants.{Plain}
 use Rattle.od_pattern.specs.declared.pattern.Value.TheVariants as value_kind
 use Rattle.od_pattern.specs.declared.pattern.Constraint.{Constraint}
-use Rattle.od_pattern.specs.declared.pattern.Turns.{Turns}
 use Rattle.od_pattern.specs.declared.pattern.Surface.{Surface}
 use Rattle.od_pattern.specs.declared.pattern.Surface.TheVariants as surface
 use Rattle.od_language.specs.declared.pattern_fault.PatternKind.{PatternKind}
-use Rattle.od_language.specs.declared.pattern_fault.PatternKind.TheVariants as kind
 use Rattle.od_language.specs.declared.lexeme.LexKind.{LexKind}
 use Rattle.od_language.specs.declared.lexeme.LexKind.TheVariants.{Word, Quoted, Regex, Range, NameOpen, AheadIs, AheadNot, BehindIs, BehindNot, SquareOpen, RoundOpen, RoundClose, Or, At, Question, Star, Plus, Caret, Dollar}
 use Rattle.od_language.specs.Fields.{compared_text, IsValue, word, quoted, regex}
@@ -21,7 +19,7 @@ use Rattle.od_language.specs.Machine.{◌>>=◌, steps}
 use Rattle.od_language.specs.ConstraintMachine as constraint
 use Rattle.od_language.proofs.Constraints.Sound as filtered
 use Rattle.od_language.specs.ConstraintMachine.{NotDone}
-use Rattle.od_syntax.specs.Surfaces.{IsLook, ahead, ahead_not, behind, behind_not, Single, token, value, label, look as a_look, first, last as last_token, IsTurns, greedy, lazy, SurfaceAtom, single, group, capture, SurfacePart, once, repeated, SurfaceParts, last, more, SurfaceChoices, final, next, Surfaces, choice}
+use Rattle.od_syntax.specs.Surfaces.{IsLook, ahead, ahead_not, behind, behind_not, token, value, label, look as a_look, first, last as last_token, IsTurns, greedy, lazy, SurfaceAtom, single, group, capture, SurfacePart, once, repeated, SurfaceParts, last, more, SurfaceChoices, final, next, Surfaces, choice}
 use Rattle.od_syntax.specs.SurfaceMachine.{Looking, Around, top, round, State, atom, name, look, inside, looked, part, counted, turned, listed, whole, in_order, any_of, norm, repeat, closed, filled, carried, step_atom, step_turned, step_listed, step_whole, step, named_if, counted_if, at_top, ended, begins_atom, joins}
 use Rattle.od_syntax.specs.SurfaceMachine as machine
 
