@@ -83,22 +83,28 @@ named_to name (c ∷ cs) =
 abbrev pub named : List ℕ → Option (LexKind × List ℕ)
 named cs = named_to (take (prefix_len in_identifier cs) cs) (drop (prefix_len in_identifier cs) cs)
 
+-- `=` or `!`, as the one lexeme or the other
+abbrev pub sign : LexKind → LexKind → List ℕ → Option (LexKind × List ℕ)
+sign is other [] = None
+sign is other (c ∷ cs) = if c == 61 then Some (is, cs) else if c == 33 then Some (other, cs) else None
+
+-- the first of two forms that fits
+abbrev pub either_form : Option (LexKind × List ℕ) → Option (LexKind × List ℕ) → Option (LexKind × List ℕ)
+either_form None o = o
+either_form (Some x) o = Some x
+
 -- behind `(?<`
 abbrev pub behind : List ℕ → Option (LexKind × List ℕ)
-behind [] = None
-behind (c ∷ cs) =
-    if c == 61 then Some (lexeme.BehindIs, cs) else
-    if c == 33 then Some (lexeme.BehindNot, cs) else
-    named (c ∷ cs)
+behind cs = either_form (sign lexeme.BehindIs lexeme.BehindNot cs) (named cs)
+
+-- behind `(?`, where `<` comes
+abbrev pub back : List ℕ → Option (LexKind × List ℕ)
+back [] = None
+back (c ∷ cs) = if c == 60 then behind cs else None
 
 -- behind `(?`
 abbrev pub looking : List ℕ → Option (LexKind × List ℕ)
-looking [] = None
-looking (c ∷ cs) =
-    if c == 61 then Some (lexeme.AheadIs, cs) else
-    if c == 33 then Some (lexeme.AheadNot, cs) else
-    if c == 60 then behind cs else
-    None
+looking cs = either_form (sign lexeme.AheadIs lexeme.AheadNot cs) (back cs)
 
 -- `(` alone where nothing longer fits
 abbrev pub or_round : Option (LexKind × List ℕ) → List ℕ → LexKind × List ℕ

@@ -98,17 +98,28 @@ pub fn named(
     }
 }
 
+/// A `=` or a `!` at a place, as the one lexeme or the other, and the place behind.
+fn sign(chars: &[char], from: usize, is: LexKind, other: LexKind) -> Option<(LexKind, usize)>
+    requires { from ≤ length chars.now }
+    ensures within { IfSome result (λ x. (from ≤ x.1) × (x.1 ≤ length chars.now)) }
+    ensures value { taken chars.now result ≡ forms.sign is other (drop from chars.now) }
+{
+    match scan::at(chars, from) {
+        Some('=') => Some((is, from + 1)),
+        Some('!') => Some((other, from + 1)),
+        _ => None,
+    }
+}
+
 /// Behind `(?<`.
 fn behind(alloc: Global, chars: &[char], from: usize) -> Result<Option<(LexKind, usize)>, NoMemory>
     requires { from ≤ length chars.now }
     ensures within { IfOk result (λ o. IfSome o (λ x. (from ≤ x.1) × (x.1 ≤ length chars.now))) }
     ensures value { TakenIn chars.now result (forms.behind (drop from chars.now)) }
 {
-    match scan::at(chars, from) {
-        Some('=') => Ok(Some((LexKind::BehindIs, from + 1))),
-        Some('!') => Ok(Some((LexKind::BehindNot, from + 1))),
-        Some(_) => named(alloc, chars, from),
-        None => Ok(None),
+    match sign(chars, from, LexKind::BehindIs, LexKind::BehindNot) {
+        Some(x) => Ok(Some(x)),
+        None => named(alloc, chars, from),
     }
 }
 
@@ -118,9 +129,19 @@ fn looking(alloc: Global, chars: &[char], from: usize) -> Result<Option<(LexKind
     ensures within { IfOk result (λ o. IfSome o (λ x. (from ≤ x.1) × (x.1 ≤ length chars.now))) }
     ensures value { TakenIn chars.now result (forms.looking (drop from chars.now)) }
 {
+    match sign(chars, from, LexKind::AheadIs, LexKind::AheadNot) {
+        Some(x) => Ok(Some(x)),
+        None => back(alloc, chars, from),
+    }
+}
+
+/// Behind `(?`, where a `<` comes.
+fn back(alloc: Global, chars: &[char], from: usize) -> Result<Option<(LexKind, usize)>, NoMemory>
+    requires { from ≤ length chars.now }
+    ensures within { IfOk result (λ o. IfSome o (λ x. (from ≤ x.1) × (x.1 ≤ length chars.now))) }
+    ensures value { TakenIn chars.now result (forms.back (drop from chars.now)) }
+{
     match scan::at(chars, from) {
-        Some('=') => Ok(Some((LexKind::AheadIs, from + 1))),
-        Some('!') => Ok(Some((LexKind::AheadNot, from + 1))),
         Some('<') => behind(alloc, chars, from + 1),
         _ => Ok(None),
     }

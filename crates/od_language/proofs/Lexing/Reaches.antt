@@ -124,8 +124,8 @@ behind_all [] rest i = absurd (cc)
 behind_all (c ∷ more) rest i =
     let two = both_true (begins_identifier c && nat_lt (length more) 64) (list_all in_identifier more) i in
     let first = both_true (begins_identifier c) (nat_lt (length more) 64) two.0 in
-    if_false (c == 61) _ _ (begins_not c 61 (c == 61) refl first.0 refl)
-    ∙ if_false (c == 33) _ _ (begins_not c 33 (c == 33) refl first.0 refl)
+    ap (λ z. form.either_form z (form.named ((c ∷ more) ++ 62 ∷ rest)))
+    (if_false (c == 61) _ _ (begins_not c 61 (c == 61) refl first.0 refl) ∙ if_false (c == 33) _ _ (begins_not c 33 (c == 33) refl first.0 refl))
     ∙ named_all (c ∷ more) rest i (ap (λ z. z && list_all in_identifier more) (begins_in c first.0) ∙ two.1)
 
 of_name : (name rest : List ℕ) → is_identifier name ≡ true → form.form 40 (63 ∷ 60 ∷ ((name ++ 62 ∷ []) ++ rest)) ≡ Ok (lexeme.NameOpen (encode_utf8_all name), rest)

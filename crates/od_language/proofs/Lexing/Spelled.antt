@@ -130,28 +130,34 @@ named cs =
     let n = prefix_len in_identifier cs in
     taken_whole (40 ∷ 63 ∷ 60 ∷ []) (take n cs) (drop n cs) cs (form.named cs) (sym (take-append-drop n cs)) (named_to (take n cs) (drop n cs) (run_passes in_identifier cs))
 
+sign : (before : List ℕ) (is other : LexKind) (cs : List ℕ) → symbol_of is ≡ Some (before ++ 61 ∷ []) → symbol_of other ≡ Some (before ++ 33 ∷ []) →
+    TakenBy before cs (form.sign is other cs)
+sign before is other [] e h = tt
+sign before is other (c ∷ cs) e h = if_cases (TakenBy before (c ∷ cs)) (c == 61) _ _
+    (λ b. ends_symbol before c 61 cs is (eqb-true c 61 b) e)
+    (λ _. if_cases (TakenBy before (c ∷ cs)) (c == 33) _ _ (λ b. ends_symbol before c 33 cs other (eqb-true c 33 b) h) (λ _. tt))
+
+either : (before cs : List ℕ) (a b : Option (LexKind × List ℕ)) → TakenBy before cs a → TakenBy before cs b → TakenBy before cs (form.either_form a b)
+either before cs None b h k = k
+either before cs (Some x) b h k = h
+
 behind : (cs : List ℕ) → TakenBy (40 ∷ 63 ∷ 60 ∷ []) cs (form.behind cs)
 unfolding symbol_of
-behind [] = tt
-behind (c ∷ cs) = if_cases (TakenBy (40 ∷ 63 ∷ 60 ∷ []) (c ∷ cs)) (c == 61) _ _
-    (λ b. ends_symbol (40 ∷ 63 ∷ 60 ∷ []) c 61 cs lexeme.BehindIs (eqb-true c 61 b) refl)
-    (λ _. if_cases (TakenBy (40 ∷ 63 ∷ 60 ∷ []) (c ∷ cs)) (c == 33) _ _
-    (λ b. ends_symbol (40 ∷ 63 ∷ 60 ∷ []) c 33 cs lexeme.BehindNot (eqb-true c 33 b) refl)
-    (λ _. named (c ∷ cs)))
+behind cs = either (40 ∷ 63 ∷ 60 ∷ []) cs (form.sign lexeme.BehindIs lexeme.BehindNot cs) (form.named cs)
+    (sign (40 ∷ 63 ∷ 60 ∷ []) lexeme.BehindIs lexeme.BehindNot cs refl refl) (named cs)
 
 first_is : (before : List ℕ) (c d : ℕ) (cs : List ℕ) (o : Option (LexKind × List ℕ)) → c ≡ d → TakenBy (before ++ d ∷ []) cs o → TakenBy before (c ∷ cs) o
 first_is before c d cs o e h = subst (λ (z : ℕ). TakenBy before (z ∷ cs) o) (sym e) (taken_behind before d cs o h)
 
+back : (cs : List ℕ) → TakenBy (40 ∷ 63 ∷ []) cs (form.back cs)
+back [] = tt
+back (c ∷ cs) = if_cases (TakenBy (40 ∷ 63 ∷ []) (c ∷ cs)) (c == 60) _ _
+    (λ b. first_is (40 ∷ 63 ∷ []) c 60 cs (form.behind cs) (eqb-true c 60 b) (behind cs)) (λ _. tt)
+
 pub looking : (cs : List ℕ) → TakenBy (40 ∷ 63 ∷ []) cs (form.looking cs)
 unfolding symbol_of
-looking [] = tt
-looking (c ∷ cs) = if_cases (TakenBy (40 ∷ 63 ∷ []) (c ∷ cs)) (c == 61) _ _
-    (λ b. ends_symbol (40 ∷ 63 ∷ []) c 61 cs lexeme.AheadIs (eqb-true c 61 b) refl)
-    (λ _. if_cases (TakenBy (40 ∷ 63 ∷ []) (c ∷ cs)) (c == 33) _ _
-    (λ b. ends_symbol (40 ∷ 63 ∷ []) c 33 cs lexeme.AheadNot (eqb-true c 33 b) refl)
-    (λ _. if_cases (TakenBy (40 ∷ 63 ∷ []) (c ∷ cs)) (c == 60) _ _
-    (λ b. first_is (40 ∷ 63 ∷ []) c 60 cs (form.behind cs) (eqb-true c 60 b) (behind cs))
-    (λ _. tt)))
+looking cs = either (40 ∷ 63 ∷ []) cs (form.sign lexeme.AheadIs lexeme.AheadNot cs) (form.back cs)
+    (sign (40 ∷ 63 ∷ []) lexeme.AheadIs lexeme.AheadNot cs refl refl) (back cs)
 
 -- nothing more is taken
 takes_alone : (c : ℕ) (cs : List ℕ) (k : LexKind) → symbol_of k ≡ Some (c ∷ []) → Taken (c ∷ []) cs k cs
