@@ -3,5 +3,6 @@ pub mod Events
 pub mod Examples
 pub mod OneRule
 pub mod Paths
+pub mod Steps
 pub mod Surfaces
 pub mod Verdicts

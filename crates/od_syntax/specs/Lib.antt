@@ -9,6 +9,8 @@ pub mod PathMachine
 pub mod Paths
 pub mod Rules
 pub mod Sizes
+pub mod StepsAnswer
+pub mod StepsMachine
 pub mod SurfaceMachine
 pub mod Surfaces
 pub mod Texts

@@ -231,7 +231,8 @@ repeat_rule may s x = None
 -- no quantifier
 abbrev pub NoTurnsAt : LexKind → Type 0
 NoTurnsAt x =
-    (may : Surface → Option ℕ → Bool) (p : Surface) (a s : List Surface) (k : Around) → step_part may x p a s k ≡ step_turned x a (s ++ p ∷ []) k
+    (may : Surface → Option ℕ → Bool) (p : Surface) (a s : List Surface) (k : Around) →
+    step_part may x p a s k ≡ step_turned x a (s ++ p ∷ []) k
 
 -- no atom
 abbrev pub NoAtomAt : LexKind → Type 0

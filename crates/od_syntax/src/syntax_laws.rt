@@ -4,6 +4,7 @@
 ghost use Rattle.od_syntax.specs.EventVerdicts.{EventsAreComputed};
 ghost use Rattle.od_syntax.specs.Examples.{SurfaceExamples, PathExamples, EventExamples, StepsExamples};
 ghost use Rattle.od_syntax.specs.OneRule.{OneSurfaceRule, OneHopRule};
+ghost use Rattle.od_syntax.specs.StepsAnswer.{StepsHaveOneAnswer};
 ghost use Rattle.od_syntax.specs.Verdicts.{SurfacesAreComputed, SurfaceTextsAreComputed, PathsAreComputed};
 
 /// A text is a surface pattern of exactly one value or has exactly one first fault, and never both: that which is computed.
@@ -23,6 +24,11 @@ pub fn paths_are_computed()
 #[tactic(auto, using(crate::proofs::Events::events_are_computed))]
 pub fn events_are_computed()
     ensures { EventsAreComputed }
+{}
+
+/// The lexemes of a hop begin with steps of exactly one value, or have exactly one first fault.
+pub fn steps_have_one_answer()
+    ensures { StepsHaveOneAnswer }
 {}
 
 /// Of the rules that one lexeme of a surface pattern or of a hop breaks, one is named.

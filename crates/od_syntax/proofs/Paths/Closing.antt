@@ -20,7 +20,7 @@ use Rattle.od_language.specs.ConstraintMachine.{NotDone}
 use Rattle.od_syntax.proofs.Paths.Complete.{inside_steps, word_goes}
 use Rattle.od_syntax.proofs.Paths.Sound.{Holds, holds, word_of}
 
-abbrev Ends : State → Type 0
+abbrev pub Ends : State → Type 0
 Ends s = (r : List LexKind) × (t : State) × (p : Path) × (steps step s r ≡ Ok t) × (ended t ≡ Some p)
 
 ends_part : (k : Around) (p : Path) (a s : List Path) → Ends (part p a s k)
@@ -45,7 +45,7 @@ ends_inside c a s k n =
     let e = ends_part k (path.Filter d.1) a s in
     (d.0 ++ e.0, e.1, e.2, steps_append step (inside c a s k) d.0 e.0 ∙ ap (λ q. q >>= λ t. steps step t e.0) (inside_steps d.0 c d.1 a s k n d.2) ∙ e.3, e.4)
 
-ends : (w : List LexKind) (s : State) → Holds w s [] → Ends s
+pub ends : (w : List LexKind) (s : State) → Holds w s [] → Ends s
 ends w (atom a s k) h = let e = ends_part k (edge true None) a s in (AnyAlong ∷ e.0, e.1, e.2, e.3, e.4)
 ends w (label b a s k) h = let e = ends_part k _ a s in (Word [] ∷ e.0, e.1, e.2, e.3, e.4)
 ends w (inside c a s k) h = ends_inside c a s k h.7
@@ -149,7 +149,7 @@ refusal_inside c a s k x j e (inl is) =
     inl (is, λ name other w. (kind.Expected, no_field (inside c a s k) other kind.Expected (ap (λ q. carried q a s k) (closing.no_word c name other (sym (ap (constraint.step c) w) ∙ e ∙ ap (λ z. Err z) is)))))
 refusal_inside c a s k x j e (inr (name, t, w, is, o)) = let v = two_in (constraint.step c (Word (codes "word"))) Equal a s k t o in inr (name, codes "word", v.0, w, is, v.1)
 
-refusal : (s : State) (x : LexKind) (j : PatternKind) → step s x ≡ Err j → Refusal plain step s x j
+pub refusal : (s : State) (x : LexKind) (j : PatternKind) → step s x ≡ Err j → Refusal plain step s x j
 refusal (atom a s k) x j e = plain_by (atom a s k) x j e (plain_atom x a s k) (λ name other w. (kind.Expected, refl))
 refusal (label b a s k) x j e = plain_by (label b a s k) x j e (plain_label x b a s k) (λ name other w. absurd (label_word b a s k x name j e w))
 refusal (inside c a s k) x j e = let r = carried_err (constraint.step c x) a s k j e in refusal_inside c a s k x j r (subst (closing.Refuses c x) r (closing.refuses c x))
@@ -165,7 +165,7 @@ end_whole p (round a s k) = refl
 end_inside : (c : constraint.State) (a s : List Path) (k : Around) → carried (constraint.step c End) a s k ≡ Err kind.Expected
 end_inside c a s k = ap (λ q. carried q a s k) (closing.no_end c)
 
-at_end : (s : State) → step s End ≡ Err kind.Expected
+pub at_end : (s : State) → step s End ≡ Err kind.Expected
 at_end (atom a s k) = refl
 at_end (label b a s k) = refl
 at_end (inside c a s k) = end_inside c a s k
@@ -174,7 +174,7 @@ at_end (turned a s k) = end_whole (any_of (a ++ in_order s ∷ [])) k
 at_end (listed a k) = end_whole (any_of a) k
 at_end (whole p k) = end_whole p k
 
-not_end : (s t : State) → step s End ≡ Ok t → ⊥
+pub not_end : (s t : State) → step s End ≡ Ok t → ⊥
 not_end s t e = let n : step s End ≡ Err kind.Expected = at_end s in absurd (cc)
 
 pub reader : (opened : ℕ) → IsReader plain Paths (BreaksRule opened) (atom [] [] top) step (closing.rule_at opened) ended
