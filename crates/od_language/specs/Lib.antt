@@ -1,11 +1,21 @@
 -- The definitions of this crate.
+pub mod Alphabet
+pub mod Answers
+pub mod ConstraintMachine
+pub mod Constraints
 pub mod Depth
 pub mod Fields
 pub mod FirstFault
+pub mod Formed
+pub mod Forms
 pub mod Grammar
 pub mod Identifier
+pub mod Lexed
 pub mod Lexing
 pub mod Machine
+pub mod Narrower
 pub mod Query
 pub mod Spelling
+pub mod Whole
+pub mod WholeRuns
 pub mod Written

@@ -43,8 +43,10 @@ abbrev pub forms : Constraint → Forms
 forms Any = unary_form []
 forms (Is f v) = unary_form (Word (field_name f) ∷ Equal ∷ value_written v ∷ [])
 forms (Not' s (more_of-Constraint c end_of-Constraint)) = unary_form (Not ∷ (forms c).as_unary)
-forms (And' s (more_of-Constraint a end_of-Constraint) q (more_of-Constraint b end_of-Constraint)) = and_form ((forms a).as_and ++ And ∷ (forms b).as_unary)
-forms (Or' s (more_of-Constraint a end_of-Constraint) q (more_of-Constraint b end_of-Constraint)) = or_form ((forms a).as_or ++ Or ∷ (forms b).as_and)
+forms (And' s (more_of-Constraint a end_of-Constraint) q (more_of-Constraint b end_of-Constraint)) =
+    and_form ((forms a).as_and ++ And ∷ (forms b).as_unary)
+forms (Or' s (more_of-Constraint a end_of-Constraint) q (more_of-Constraint b end_of-Constraint)) =
+    or_form ((forms a).as_or ++ Or ∷ (forms b).as_and)
 
 -- the lexemes of a constraint
 abbrev pub written : Constraint → List LexKind

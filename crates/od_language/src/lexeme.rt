@@ -1,5 +1,8 @@
 //! Lexemes: the smallest parts of a pattern's text.
-use od_text::text::Text;
+ghost use Rattle.std.specs.Prelude.{◌≡◌};
+ghost use Rattle.od_language.specs.declared.lexeme.LexFault.TheVariants as fault;
+
+use od_text::text::{NoMemory, Text};
 
 /// What a lexeme is. A text that it carries has its escapes replaced and its marks taken off.
 #[derive(Debug, Drop)]
@@ -90,4 +93,12 @@ pub enum LexFault {
     OpenRegex { at: u32 },
     BadNumber { at: u32 },
     NoMemory,
+}
+
+impl From<NoMemory> for LexFault {
+    ghost from_gives = { λ _ e. e ≡ fault.NoMemory };
+
+    fn from(_refused: NoMemory) -> LexFault {
+        LexFault::NoMemory
+    }
 }

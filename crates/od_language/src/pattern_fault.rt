@@ -1,4 +1,9 @@
 //! Why a text is no pattern.
+ghost use Rattle.std.specs.Prelude.{◌≡◌};
+ghost use Rattle.od_language.specs.declared.pattern_fault.PatternFault.TheVariants as fault;
+
+use od_text::text::NoMemory;
+use std::alloc::{AllocError, AllocFailed};
 
 /// What is wrong at a place of a pattern.
 #[derive(Clone, Copy, Debug, PartialEq, Eq)]
@@ -28,4 +33,28 @@ pub enum PatternKind {
 pub enum PatternFault {
     Bad { at: u32, kind: PatternKind },
     NoMemory,
+}
+
+impl From<NoMemory> for PatternFault {
+    ghost from_gives = { λ _ e. e ≡ fault.NoMemory };
+
+    fn from(_refused: NoMemory) -> PatternFault {
+        PatternFault::NoMemory
+    }
+}
+
+impl From<AllocError> for PatternFault {
+    ghost from_gives = { λ _ e. e ≡ fault.NoMemory };
+
+    fn from(_refused: AllocError) -> PatternFault {
+        PatternFault::NoMemory
+    }
+}
+
+impl<T: Drop> From<AllocFailed<T>> for PatternFault {
+    ghost from_gives = { λ _ e. e ≡ fault.NoMemory };
+
+    fn from(_refused: AllocFailed<T>) -> PatternFault {
+        PatternFault::NoMemory
+    }
 }

@@ -8,21 +8,23 @@ use Rattle.od_language.specs.declared.pattern_fault.PatternKind.TheVariants as k
 use Rattle.od_pattern.specs.declared.pattern.Constraint.{Constraint}
 use Rattle.od_pattern.specs.declared.pattern.Constraint.TheVariants as constraint
 use Rattle.od_language.specs.Depth.{depth_behind, broken_rule, too_deep, depth_after, depth_before}
-use Rattle.od_language.specs.FirstFault.{kinds}
-use Rattle.od_language.specs.Machine.{◌>>=◌}
+use Rattle.od_language.specs.Alphabet.{plain, kinds}
+use Rattle.od_language.specs.declared.limits.TheConstants.{OPEN_BRACKETS}
+use Rattle.od_language.specs.Machine.{◌>>=◌, GoesOn}
 use Rattle.od_language.specs.declared.pattern_fault.PatternFault.{PatternFault}
 use Rattle.od_language.specs.declared.pattern_fault.PatternFault.TheVariants as fault
-use Rattle.od_lex.specs.Machine.{Leads, Reading, step_first, negated, both, Open, square, round, State, operand, after, start, run, marked, unbroken, step_operand, step_start}
-use Rattle.od_lex.specs.Machine as machine
+use Rattle.od_language.specs.ConstraintMachine.{step_first, negated, both, Open, square, round, State, operand, after, start, step_operand, step_start}
+use Rattle.od_lex.specs.Machine.{Reading, run, marked, unbroken}
+use Rattle.od_language.specs.ConstraintMachine as machine
 
 pub negated_next : (n k : ℕ) (t u : Constraint) → k < n → u ≡ constraint.Not t → negated (n - (k + 1)) u ≡ negated (n - k) t
 negated_next n k t u h e = let s : n - k ≡ suc (n - (k + 1)) = omega arith in rw (s, e) refl
 
-within : (d : ℕ) → d < 100 → too_deep d ≡ None
-within d h = ap (λ (b : Bool). if b then None else Some kind.TooDeep) (lt-ltb d 100 h)
+within : (d : ℕ) → d < OPEN_BRACKETS → too_deep d ≡ None
+within d h = ap (λ (b : Bool). if b then None else Some kind.TooDeep) (lt-ltb d OPEN_BRACKETS h)
 
 -- into round brackets
-pub round_in : (d n : ℕ) (a o : Option Constraint) (k : Open) (l m : List Lexeme) (x : Lexeme) → l ≡ x ∷ m → x.kind ≡ RoundOpen → d < 100 →
+pub round_in : (d n : ℕ) (a o : Option Constraint) (k : Open) (l m : List Lexeme) (x : Lexeme) → l ≡ x ∷ m → x.kind ≡ RoundOpen → d < OPEN_BRACKETS →
     run d (operand n a o k) l ≡ run (d + 1) (operand 0 None None (round n a o k)) m
 round_in d n a o k l m x e h b =
     ap (run d (operand n a o k)) e
@@ -30,7 +32,7 @@ round_in d n a o k l m x e h b =
     ∙ ap (λ q. unbroken x.at q >>= λ _. run (suc d) (operand 0 None None (round n a o k)) m) (within d b)
     ∙ ap (λ z. run z (operand 0 None None (round n a o k)) m) (omega arith)
 
-pub square_in : (d : ℕ) (l m : List Lexeme) (x : Lexeme) → l ≡ x ∷ m → x.kind ≡ SquareOpen → d < 100 →
+pub square_in : (d : ℕ) (l m : List Lexeme) (x : Lexeme) → l ≡ x ∷ m → x.kind ≡ SquareOpen → d < OPEN_BRACKETS →
     run d start l ≡ run (d + 1) machine.first m
 square_in d l m x e h b =
     ap (run d start) e
@@ -52,12 +54,12 @@ first_in d l m x e h =
     ∙ ap (λ q. marked x.at q >>= λ t. unbroken x.at (broken_rule d x.kind) >>= λ _. run (depth_behind d x.kind) t m) (not_close x.kind h)
     ∙ sym (ap (run d (operand 0 None None square)) e)
 
-pub leads_on : {X : Type 0} → (q : Result X PatternFault) (r s : Reading) (f : X → Reading) → r ≡ s → Leads q s f → Leads q r f
+pub leads_on : {X : Type 0} → (q : Result X PatternFault) (r s : Reading) (f : X → Reading) → r ≡ s → GoesOn q s f → GoesOn q r f
 leads_on (Ok x) r s f h k = h ∙ k
 leads_on (Err fault.NoMemory) r s f h k = tt
 leads_on (Err (fault.Bad at kind)) r s f h k = h ∙ k
 
-depth_next : (d i : ℕ) (xs : List Lexeme) (x : Lexeme) → i < length xs → x ≡ get_or xs i x → depth_after d (kinds (take (suc i) xs)) ≡ depth_behind (depth_after d (kinds (take i xs))) x.kind
+depth_next : (d i : ℕ) (xs : List Lexeme) (x : Lexeme) → i < length xs → x ≡ get_or xs i x → depth_after d (kinds plain (take (suc i) xs)) ≡ depth_behind (depth_after d (kinds plain (take i xs))) x.kind
 depth_next d i [] x h e = absurd (omega arith)
 depth_next d zero (y ∷ xs) x h e = ap (λ (z : Lexeme). depth_behind d z.kind) (sym e)
 depth_next d (suc i) (y ∷ xs) x h e = depth_next (depth_behind d y.kind) i xs x (omega arith) e
@@ -65,7 +67,7 @@ depth_next d (suc i) (y ∷ xs) x h e = depth_next (depth_behind d y.kind) i xs 
 pub depth_more : (i : ℕ) (xs : List Lexeme) (x : Lexeme) → i < length xs → x ≡ get_or xs i x → depth_before xs (i + 1) ≡ depth_behind (depth_before xs i) x.kind
 depth_more i xs x h e = rw add-one (depth_next 0 i xs x h e)
 
-pub leads_through : {X : Type 0} → (q : Result X PatternFault) (r s : Reading) (f g : X → Reading) → r ≡ s → ((x : X) → g x ≡ f x) → Leads q s g → Leads q r f
+pub leads_through : {X : Type 0} → (q : Result X PatternFault) (r s : Reading) (f g : X → Reading) → r ≡ s → ((x : X) → g x ≡ f x) → GoesOn q s g → GoesOn q r f
 leads_through (Ok x) r s f g h e k = h ∙ k ∙ e x
 leads_through (Err fault.NoMemory) r s f g h e k = tt
 leads_through (Err (fault.Bad at kind)) r s f g h e k = h ∙ k

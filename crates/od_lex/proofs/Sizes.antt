@@ -8,9 +8,9 @@ use Rattle.od_language.specs.declared.lexeme.Lexeme.{Lexeme}
 use Rattle.od_language.specs.declared.lexeme.LexKind.{LexKind}
 use Rattle.od_language.specs.declared.lexeme.LexKind.TheVariants as lexeme
 use Rattle.od_language.specs.declared.lexeme.Miss.{Miss}
-use Rattle.od_lex.specs.Forms.{form}
+use Rattle.od_language.specs.Forms.{form}
 use Rattle.od_language.specs.Lexing.{size_of as bytes}
-use Rattle.od_lex.specs.Reading.{Formed, end, stuck, white, next}
+use Rattle.od_language.specs.Formed.{Formed, end, stuck, white, next}
 
 bytes_next : (xs : List ℕ) (i c : ℕ) → i < length xs → c ≡ get_or xs i c → bytes (take (suc i) xs) ≡ bytes (take i xs) + len_utf8 c
 bytes_next [] i c h e = absurd (omega arith)

@@ -3,7 +3,7 @@ use Rattle.std.proofs.Common.{◌≡◌, ℕ, zero, suc, ◌+◌, ◌<◌, List,
 use Rattle.std.specs.List.{prefix_len}
 use Rattle.std.specs.Char.{encode_utf8}
 use Rattle.std.specs.Str.{encode_utf8_all}
-use Rattle.od_lex.specs.Forms as lex
+use Rattle.od_language.specs.Forms as lex
 use Rattle.od_language.specs.Spelling.{value_from}
 
 spelled_next : (xs : List ℕ) (i : ℕ) (c : ℕ) → i < length xs → c ≡ get_or xs i c → encode_utf8_all (take (suc i) xs) ≡ encode_utf8_all (take i xs) ++ encode_utf8 c

@@ -1,3 +1,4 @@
-pub mod Forms
+-- What the contracts of the lexer's and the parser's parts speak of.
 pub mod Machine
-pub mod Reading
+pub mod Runs
+pub mod Taken

@@ -8,30 +8,30 @@ ghost use Rattle.od_language.specs.declared.lexeme.Lexeme.{Lexeme};
 ghost use Rattle.od_pattern.specs.declared.pattern.Constraint.{Constraint};
 ghost use Rattle.od_pattern.specs.declared.pattern.Constraint.TheVariants as constraint;
 ghost use Rattle.od_language.specs.Fields.{field_named, compared_text, is_text};
-ghost use Rattle.od_language.specs.Grammar.{IsConstraint};
 ghost use Rattle.od_language.specs.Written.{written, IsWritable};
 ghost use Rattle.od_language.specs.declared.lexeme.LexKind.{LexKind};
 ghost use Rattle.od_language.specs.Depth.{depth_behind, depth_before, BreaksRule};
-ghost use Rattle.od_language.specs.FirstFault.{kinds, Keeps, IsEnded, IsRead, IsFault, IfBad, OneAnswer, Gives, Refuses};
-ghost use Rattle.od_lex.specs.Machine.{Open, square, round, start, first, NoAnd, NoOr, NoNot, operand, named, equals, after, both, either, negated, run, Leads, place_of, Makes};
+ghost use Rattle.od_language.specs.Alphabet.{plain, kinds, IsEnded};
+ghost use Rattle.od_language.specs.Answers.{IfBad, Gives, Refuses};
+ghost use Rattle.od_language.specs.Constraints.{IsConstraintRead, IsConstraintFault, OneConstraint};
+ghost use Rattle.od_language.specs.FirstFault.{Keeps};
+ghost use Rattle.od_language.specs.Machine.{GoesOn};
+ghost use Rattle.od_language.specs.ConstraintMachine.{Open, square, round, start, first, operand, named, equals, after, both, either, negated};
+ghost use Rattle.od_lex.specs.Machine.{NoAnd, NoOr, NoNot, run, place_of, Makes, IsAhead, IsReadFrom};
 
 use caseless::default_case_fold_str;
 use od_language::lexeme::{LexKind, Lexeme};
+use od_language::limits::{EXPRESSION_BYTES, OPEN_BRACKETS};
 use od_language::pattern_fault::{PatternFault, PatternKind};
 use od_pattern::pattern::{Constraint, Field, Value};
 use od_text::text::{Copied, Text};
 use sqlite_items::Boxed;
 use std::alloc::Global;
 
-/// How many brackets may be open at a place.
-const MAX_DEPTH: usize = 100;
-
-/// How many bytes a regular expression may have.
-const MAX_EXPRESSION: usize = 200;
-
 /// The lexeme at a place.
 fn next(lexemes: &[Lexeme], i: usize) -> Option<&Lexeme>
-    ensures { MatchOption result (drop i lexemes.now ≡ []) (λ x. (drop i lexemes.now ≡ x.now ∷ drop (i + 1) lexemes.now) × (i < length lexemes.now)) }
+    ensures { MatchOption result (drop i lexemes.now ≡ [])
+        (λ x. (drop i lexemes.now ≡ x.now ∷ drop (i + 1) lexemes.now) × (i < length lexemes.now)) }
 {
     lexemes.get(i)
 }
@@ -50,31 +50,22 @@ fn unexpected(lexemes: &[Lexeme], i: usize) -> PatternFault
     }
 }
 
-fn boxed(alloc: Global, c: Constraint) -> Result<Boxed<Constraint>, PatternFault>
-    ensures { MatchResult result (λ b. b ≡ c) (λ e. e ≡ PatternFault.NoMemory) }
-{
-    match Boxed::new(alloc, c) {
-        Ok(b) => Ok(b),
-        Err(_) => Err(PatternFault::NoMemory),
-    }
-}
-
 fn negate(alloc: Global, c: Constraint) -> Result<Constraint, PatternFault>
     ensures { Makes result (constraint.Not c) }
 {
-    Ok(Constraint::Not(boxed(alloc, c)?))
+    Ok(Constraint::Not(Boxed::new(alloc, c)?))
 }
 
 fn join_and(alloc: Global, a: Constraint, b: Constraint) -> Result<Constraint, PatternFault>
     ensures { Makes result (constraint.And a b) }
 {
-    Ok(Constraint::And(boxed(alloc, a)?, boxed(alloc, b)?))
+    Ok(Constraint::And(Boxed::new(alloc, a)?, Boxed::new(alloc, b)?))
 }
 
 fn join_or(alloc: Global, a: Constraint, b: Constraint) -> Result<Constraint, PatternFault>
     ensures { Makes result (constraint.Or a b) }
 {
-    Ok(Constraint::Or(boxed(alloc, a)?, boxed(alloc, b)?))
+    Ok(Constraint::Or(Boxed::new(alloc, a)?, Boxed::new(alloc, b)?))
 }
 
 fn is_named(name: &Text, field: &str) -> bool
@@ -115,7 +106,8 @@ fn field_of(name: &Text) -> Option<Field>
 fn negations(lexemes: &[Lexeme], from: usize) -> (usize, usize)
     ensures on { from ≤ result.1 }
     ensures stops { NoNot (drop result.1 lexemes.now) }
-    ensures goes { (d n : ℕ) (a o : Option Constraint) (k : Open) → run d (operand n a o k) (drop from lexemes.now) ≡ run d (operand (n + result.0) a o k) (drop result.1 lexemes.now) }
+    ensures goes { (d n : ℕ) (a o : Option Constraint) (k : Open) →
+        run d (operand n a o k) (drop from lexemes.now) ≡ run d (operand (n + result.0) a o k) (drop result.1 lexemes.now) }
 {
     let mut count = 0;
     let mut i = from;
@@ -138,7 +130,8 @@ fn value(
     from: usize,
     field: Field,
 ) -> Result<Value, PatternFault>
-    ensures { (d n : ℕ) (a o : Option Constraint) (k : Open) → Leads result (run d (equals field n a o k) (drop from lexemes.now))
+    ensures { (d n : ℕ) (a o : Option Constraint) (k : Open) →
+        GoesOn result (run d (equals field n a o k) (drop from lexemes.now))
         (λ v. run d (after (both a (negated n (constraint.Is field v))) o k) (drop (from + 1) lexemes.now)) }
 {
     match next(lexemes, from) {
@@ -146,16 +139,13 @@ fn value(
             LexKind::Word(text) => plain(alloc, field, text),
             LexKind::Quoted(text) => plain(alloc, field, text),
             LexKind::Regex(text) => {
-                if text.get().len() > MAX_EXPRESSION {
+                if text.get().len() > EXPRESSION_BYTES {
                     return Err(PatternFault::Bad {
                         at: x.at,
                         kind: PatternKind::RegexLong,
                     });
                 }
-                match text.copy(alloc) {
-                    Ok(text) => Ok(Value::Regex(text)),
-                    Err(_) => Err(PatternFault::NoMemory),
-                }
+                Ok(Value::Regex(text.copy(alloc)?))
             }
             _ => Err(unexpected(lexemes, from)),
         },
@@ -165,17 +155,15 @@ fn value(
 
 /// A plain value of a field; for norms it is folded.
 fn plain(alloc: Global, field: Field, text: &Text) -> Result<Value, PatternFault>
-    ensures { MatchResult result (λ v. v ≡ asked.Plain (compared_text field text.now)) (λ e. e ≡ PatternFault.NoMemory) }
+    ensures { MatchResult result (λ v. v ≡ asked.Plain (compared_text field text.now))
+        (λ e. e ≡ PatternFault.NoMemory) }
 {
     match field {
-        Field::Norm => match default_case_fold_str(alloc, text.get()) {
-            Ok(folded) => Ok(Value::Plain(Text::from_string(folded))),
-            Err(_) => Err(PatternFault::NoMemory),
-        },
-        _ => match text.copy(alloc) {
-            Ok(text) => Ok(Value::Plain(text)),
-            Err(_) => Err(PatternFault::NoMemory),
-        },
+        Field::Norm => {
+            let folded = default_case_fold_str(alloc, text.get())?;
+            Ok(Value::Plain(Text::from_string(folded)))
+        }
+        _ => Ok(Value::Plain(text.copy(alloc)?)),
     }
 }
 
@@ -200,7 +188,8 @@ fn field_test(
 ) -> Result<(Constraint, usize), PatternFault>
     requires { from < 2 ^ 63 }
     ensures on { IfOk result (λ x. from < x.1) }
-    ensures goes { (d n : ℕ) (a o : Option Constraint) (k : Open) → Leads result (run d (named f n a o k) (drop from lexemes.now))
+    ensures goes { (d n : ℕ) (a o : Option Constraint) (k : Open) →
+        GoesOn result (run d (named f n a o k) (drop from lexemes.now))
         (λ x. run d (after (both a (negated n x.0)) o k) (drop x.1 lexemes.now)) }
 {
     match next(lexemes, from) {
@@ -218,7 +207,9 @@ fn field_test(
 /// Behind what stands in brackets.
 fn round_close(lexemes: &[Lexeme], from: usize) -> Result<usize, PatternFault>
     ensures on { IfOk result (λ to. from < to) }
-    ensures goes { (d : ℕ) (c : Constraint) (n : ℕ) (a o : Option Constraint) (k : Open) → NoAnd (drop from lexemes.now) → NoOr (drop from lexemes.now) → Leads result (run d (after c None (round n a o k)) (drop from lexemes.now))
+    ensures goes { (d : ℕ) (c : Constraint) (n : ℕ) (a o : Option Constraint) (k : Open) →
+        NoAnd (drop from lexemes.now) → NoOr (drop from lexemes.now) →
+        GoesOn result (run d (after c None (round n a o k)) (drop from lexemes.now))
         (λ to. run (d - 1) (after (both a (negated n c)) o k) (drop to lexemes.now)) }
 {
     match next(lexemes, from) {
@@ -232,7 +223,7 @@ fn round_close(lexemes: &[Lexeme], from: usize) -> Result<usize, PatternFault>
 
 /// Whether an `and` goes on.
 fn is_and(lexemes: &[Lexeme], i: usize) -> bool
-    ensures { MatchBool result ((x : Lexeme) × (drop i lexemes.now ≡ x ∷ drop (i + 1) lexemes.now) × (x.kind ≡ lexeme.And) × (i < length lexemes.now)) (NoAnd (drop i lexemes.now)) }
+    ensures { MatchBool result (IsAhead lexeme.And i lexemes.now) (NoAnd (drop i lexemes.now)) }
 {
     match next(lexemes, i) {
         Some(x) => match x.kind {
@@ -245,7 +236,7 @@ fn is_and(lexemes: &[Lexeme], i: usize) -> bool
 
 /// Whether an `or` goes on.
 fn is_or(lexemes: &[Lexeme], i: usize) -> bool
-    ensures { MatchBool result ((x : Lexeme) × (drop i lexemes.now ≡ x ∷ drop (i + 1) lexemes.now) × (x.kind ≡ lexeme.Or) × (i < length lexemes.now)) (NoOr (drop i lexemes.now)) }
+    ensures { MatchBool result (IsAhead lexeme.Or i lexemes.now) (NoOr (drop i lexemes.now)) }
 {
     match next(lexemes, i) {
         Some(x) => match x.kind {
@@ -264,7 +255,8 @@ fn unary(
     from: usize,
     depth: usize,
 ) -> Result<(Constraint, usize), PatternFault>
-    ensures goes { (a o : Option Constraint) (k : Open) → Leads result (run depth (operand 0 a o k) (drop from lexemes.now))
+    ensures goes { (a o : Option Constraint) (k : Open) →
+        GoesOn result (run depth (operand 0 a o k) (drop from lexemes.now))
         (λ x. run depth (after (both a x.0) o k) (drop x.1 lexemes.now)) }
     ensures on { IfOk result (λ x. from < x.1) }
 {
@@ -281,14 +273,15 @@ fn bare_operand(
     from: usize,
     depth: usize,
 ) -> Result<(Constraint, usize), PatternFault>
-    ensures goes { NoNot (drop from lexemes.now) → (n : ℕ) (a o : Option Constraint) (k : Open) → Leads result (run depth (operand n a o k) (drop from lexemes.now))
+    ensures goes { NoNot (drop from lexemes.now) → (n : ℕ) (a o : Option Constraint) (k : Open) →
+        GoesOn result (run depth (operand n a o k) (drop from lexemes.now))
         (λ x. run depth (after (both a (negated n x.0)) o k) (drop x.1 lexemes.now)) }
     ensures on { IfOk result (λ x. from < x.1) }
 {
     match next(lexemes, from) {
         Some(x) => match &x.kind {
             LexKind::RoundOpen => {
-                if depth >= MAX_DEPTH {
+                if depth >= OPEN_BRACKETS {
                     return Err(PatternFault::Bad {
                         at: x.at,
                         kind: PatternKind::TooDeep,
@@ -317,7 +310,8 @@ fn grouped(
     from: usize,
     depth: usize,
 ) -> Result<(Constraint, usize), PatternFault>
-    ensures goes { (n : ℕ) (a o : Option Constraint) (k : Open) → Leads result (run depth (operand 0 None None (round n a o k)) (drop from lexemes.now))
+    ensures goes { (n : ℕ) (a o : Option Constraint) (k : Open) →
+        GoesOn result (run depth (operand 0 None None (round n a o k)) (drop from lexemes.now))
         (λ x. run (depth - 1) (after (both a (negated n x.0)) o k) (drop x.1 lexemes.now)) }
     ensures on { IfOk result (λ x. from < x.1) }
 {
@@ -334,7 +328,8 @@ fn all_of(
     from: usize,
     depth: usize,
 ) -> Result<(Constraint, usize), PatternFault>
-    ensures goes { (o : Option Constraint) (k : Open) → Leads result (run depth (operand 0 None o k) (drop from lexemes.now))
+    ensures goes { (o : Option Constraint) (k : Open) →
+        GoesOn result (run depth (operand 0 None o k) (drop from lexemes.now))
         (λ x. run depth (after x.0 o k) (drop x.1 lexemes.now)) }
     ensures on { IfOk result (λ x. from < x.1) }
     ensures stops { IfOk result (λ x. NoAnd (drop x.1 lexemes.now)) }
@@ -356,7 +351,8 @@ fn alternatives(
     from: usize,
     depth: usize,
 ) -> Result<(Constraint, usize), PatternFault>
-    ensures goes { (k : Open) → Leads result (run depth (operand 0 None None k) (drop from lexemes.now))
+    ensures goes { (k : Open) →
+        GoesOn result (run depth (operand 0 None None k) (drop from lexemes.now))
         (λ x. run depth (after x.0 None k) (drop x.1 lexemes.now)) }
     ensures on { IfOk result (λ x. from < x.1) }
     ensures stops { IfOk result (λ x. NoAnd (drop x.1 lexemes.now) × NoOr (drop x.1 lexemes.now)) }
@@ -377,7 +373,8 @@ fn filled(
     from: usize,
     depth: usize,
 ) -> Result<(Constraint, usize), PatternFault>
-    ensures goes { Leads result (run depth (operand 0 None None square) (drop from lexemes.now)) (λ x. Ok (x.0, drop x.1 lexemes.now)) }
+    ensures goes { GoesOn result (run depth (operand 0 None None square) (drop from lexemes.now))
+        (λ x. Ok (x.0, drop x.1 lexemes.now)) }
     ensures on { IfOk result (λ x. (from < x.1) × (x.1 ≤ length lexemes.now)) }
 {
     let (c, end) = alternatives(alloc, lexemes, from, depth)?;
@@ -392,7 +389,8 @@ fn inside(
     from: usize,
     depth: usize,
 ) -> Result<(Constraint, usize), PatternFault>
-    ensures goes { Leads result (run depth first (drop from lexemes.now)) (λ x. Ok (x.0, drop x.1 lexemes.now)) }
+    ensures goes { GoesOn result (run depth first (drop from lexemes.now))
+        (λ x. Ok (x.0, drop x.1 lexemes.now)) }
     ensures on { IfOk result (λ x. (from < x.1) × (x.1 ≤ length lexemes.now)) }
 {
     match next(lexemes, from) {
@@ -407,7 +405,9 @@ fn inside(
 /// The end of a constraint.
 fn square_close(lexemes: &[Lexeme], from: usize) -> Result<usize, PatternFault>
     ensures on { IfOk result (λ to. (from < to) × (to ≤ length lexemes.now)) }
-    ensures goes { (d : ℕ) (c : Constraint) → NoAnd (drop from lexemes.now) → NoOr (drop from lexemes.now) → Leads result (run d (after c None square) (drop from lexemes.now))
+    ensures goes { (d : ℕ) (c : Constraint) → NoAnd (drop from lexemes.now) →
+        NoOr (drop from lexemes.now) →
+        GoesOn result (run d (after c None square) (drop from lexemes.now))
         (λ to. Ok (c, drop to lexemes.now)) }
 {
     match next(lexemes, from) {
@@ -426,13 +426,14 @@ fn bracketed(
     from: usize,
     depth: usize,
 ) -> Result<(Constraint, usize), PatternFault>
-    ensures goes { Leads result (run depth start (drop from lexemes.now)) (λ x. Ok (x.0, drop x.1 lexemes.now)) }
+    ensures goes { GoesOn result (run depth start (drop from lexemes.now))
+        (λ x. Ok (x.0, drop x.1 lexemes.now)) }
     ensures on { IfOk result (λ x. (from < x.1) × (x.1 ≤ length lexemes.now)) }
 {
     match next(lexemes, from) {
         Some(x) => match x.kind {
             LexKind::SquareOpen => {
-                if depth >= MAX_DEPTH {
+                if depth >= OPEN_BRACKETS {
                     return Err(PatternFault::Bad {
                         at: x.at,
                         kind: PatternKind::TooDeep,
@@ -455,10 +456,12 @@ pub fn constraint_at(
     from: usize,
     depth: usize,
 ) -> Result<(Constraint, usize), PatternFault>
-    ensures value { IfOk result (λ x. (from ≤ x.1) × IsRead IsConstraint (BreaksRule depth) (drop from lexemes.now) x.0 (x.1 - from)) }
-    ensures fault { IsEnded (drop from lexemes.now) → IfBad result (IsFault IsConstraint (BreaksRule depth) (drop from lexemes.now)) }
+    ensures value { IfOk result (λ x. IsReadFrom depth lexemes.now from x.0 x.1) }
+    ensures fault { IsEnded plain (drop from lexemes.now) →
+        IfBad result (IsConstraintFault depth (drop from lexemes.now)) }
     // What a machine that contains the machine of constraints needs to know.
-    ensures goes { Leads result (run depth start (drop from lexemes.now)) (λ x. Ok (x.0, drop x.1 lexemes.now)) }
+    ensures goes { GoesOn result (run depth start (drop from lexemes.now))
+        (λ x. Ok (x.0, drop x.1 lexemes.now)) }
     ensures on { IfOk result (λ x. (from < x.1) × (x.1 ≤ length lexemes.now)) }
 {
     bracketed(alloc, lexemes, from, depth)
@@ -507,19 +510,26 @@ pub fn parse_constraint(
     lexemes: &[Lexeme],
     from: usize,
 ) -> Result<(Constraint, usize), PatternFault>
-    requires { IsEnded (drop from lexemes.now) }
+    requires { IsEnded plain (drop from lexemes.now) }
     // A value is one that the lexemes there begin with, up to the place behind it.
-    ensures value { IfOk result (λ x. (from ≤ x.1) × IsRead IsConstraint (BreaksRule (depth_before lexemes.now from)) (drop from lexemes.now) x.0 (x.1 - from)) }
+    ensures value { IfOk result
+        (λ x. IsReadFrom (depth_before lexemes.now from) lexemes.now from x.0 x.1) }
     // A fault is the first one.
-    ensures fault { IfBad result (IsFault IsConstraint (BreaksRule (depth_before lexemes.now from)) (drop from lexemes.now)) }
+    ensures fault { IfBad result (IsConstraintFault (depth_before lexemes.now from) (drop from lexemes.now)) }
     // Where a value stands, it is the answer, and where there is a first fault, that is, unless memory is refused.
-    ensures only_value { (c : Constraint) (count : ℕ) → IsRead IsConstraint (BreaksRule (depth_before lexemes.now from)) (drop from lexemes.now) c count → Gives result c (from + count) }
-    ensures only_fault { (at : ℕ) (k : PatternKind) → IsFault IsConstraint (BreaksRule (depth_before lexemes.now from)) (drop from lexemes.now) at k → Refuses result at k }
+    ensures only_value { (c : Constraint) (count : ℕ) →
+        IsConstraintRead (depth_before lexemes.now from) (drop from lexemes.now) c count →
+        Gives result c (from + count) }
+    ensures only_fault { (at : ℕ) (k : PatternKind) →
+        IsConstraintFault (depth_before lexemes.now from) (drop from lexemes.now) at k →
+        Refuses result at k }
     // A constraint that is written out reads back as itself, where it keeps the limits.
-    ensures reads_back { (c : Constraint) (behind : List LexKind) → IsWritable c → kinds (drop from lexemes.now) ≡ written c ++ behind →
-        Keeps (BreaksRule (depth_before lexemes.now from)) (written c) → Gives result c (from + length (written c)) }
+    ensures reads_back { (c : Constraint) (behind : List LexKind) →
+        IsWritable c → kinds plain (drop from lexemes.now) ≡ written c ++ behind →
+        Keeps (BreaksRule (depth_before lexemes.now from)) (written c) →
+        Gives result c (from + length (written c)) }
     // One of the two always stands, and never both.
-    ensures one_answer { OneAnswer IsConstraint (BreaksRule (depth_before lexemes.now from)) (drop from lexemes.now) }
+    ensures one_answer { OneConstraint (depth_before lexemes.now from) (drop from lexemes.now) }
 {
     constraint_at(alloc, lexemes, from, depth_at(lexemes, from))
 }

@@ -1,12 +1,16 @@
 //! The form of the lexeme that stands at a place.
 ghost use Rattle.std.specs.Prelude.{◌≡◌, ℕ, ◌+◌, ◌-◌, ◌*◌, ◌^◌, ◌<◌, ◌≤◌, List, [], ◌∷◌, ◌++◌, drop, take, length, Option, Some, None, Ok, Err, MatchOption, IfOk, IfSome, OnOk, IsTrue, string_bytes, Bool, true, false};
 ghost use Rattle.std.specs.List.{list_all};
-ghost use Rattle.od_lex.specs.Forms as lex;
+ghost use Rattle.od_language.specs.Forms as forms;
+ghost use Rattle.od_lex.specs.Taken.{taken, TakenIn, Forms};
+ghost use Rattle.od_lex.specs.declared.form.Stop.TheVariants as stop;
 ghost use Rattle.od_language.specs.Identifier as identifier;
+ghost use Rattle.od_language.specs.declared.limits.TheConstants.{GREATEST_NUMBER};
 ghost use Rattle.od_language.specs.Spelling as spelling;
 
-use crate::scan;
+use crate::scan::{self, Run};
 use od_language::lexeme::{LexKind, Miss};
+use od_language::limits::{GREATEST_NUMBER, IDENTIFIER_BYTES};
 use od_text::text::{NoMemory, Text};
 use std::alloc::Global;
 
@@ -17,9 +21,17 @@ pub enum Stop {
     NoMemory,
 }
 
+impl From<NoMemory> for Stop {
+    ghost from_gives = { λ _ e. e ≡ stop.NoMemory };
+
+    fn from(_refused: NoMemory) -> Stop {
+        Stop::NoMemory
+    }
+}
+
 /// A symbol that is always one character.
 pub fn symbol(c: char) -> Option<LexKind>
-    ensures { result ≡ lex.symbol c }
+    ensures { result ≡ forms.symbol c }
 {
     match c {
         '[' => Some(LexKind::SquareOpen),
@@ -46,11 +58,14 @@ pub fn is_identifier(name: &[char]) -> bool
     match name {
         [] => false,
         [first, rest @ ..] => {
-            scan::begins_identifier(*first) && rest.len() < 64 && all_in_identifier(rest)
+            scan::begins_identifier(*first)
+                && rest.len() < IDENTIFIER_BYTES
+                && all_in_identifier(rest)
         }
     }
 }
 
+/// Whether each character may stand in an identifier.
 fn all_in_identifier(name: &[char]) -> bool
     ensures { result ≡ list_all identifier.in_identifier name.now }
 {
@@ -68,9 +83,9 @@ pub fn named(
 ) -> Result<Option<(LexKind, usize)>, NoMemory>
     requires { from ≤ length chars.now }
     ensures within { IfOk result (λ o. IfSome o (λ x. (from ≤ x.1) × (x.1 ≤ length chars.now))) }
-    ensures value { lex.TakenIn chars.now result (lex.named (drop from chars.now)) }
+    ensures value { TakenIn chars.now result (forms.named (drop from chars.now)) }
 {
-    let (name, end) = scan::name(chars, from);
+    let (name, end) = scan::run_at(chars, from, Run::Name);
     match scan::at(chars, end) {
         Some('>') => {
             if !is_identifier(name) {
@@ -83,17 +98,28 @@ pub fn named(
     }
 }
 
+/// A `=` or a `!` at a place, as the one lexeme or the other, and the place behind.
+fn sign(chars: &[char], from: usize, is: LexKind, other: LexKind) -> Option<(LexKind, usize)>
+    requires { from ≤ length chars.now }
+    ensures within { IfSome result (λ x. (from ≤ x.1) × (x.1 ≤ length chars.now)) }
+    ensures value { taken chars.now result ≡ forms.sign is other (drop from chars.now) }
+{
+    match scan::at(chars, from) {
+        Some('=') => Some((is, from + 1)),
+        Some('!') => Some((other, from + 1)),
+        _ => None,
+    }
+}
+
 /// Behind `(?<`.
 fn behind(alloc: Global, chars: &[char], from: usize) -> Result<Option<(LexKind, usize)>, NoMemory>
     requires { from ≤ length chars.now }
     ensures within { IfOk result (λ o. IfSome o (λ x. (from ≤ x.1) × (x.1 ≤ length chars.now))) }
-    ensures value { lex.TakenIn chars.now result (lex.behind (drop from chars.now)) }
+    ensures value { TakenIn chars.now result (forms.behind (drop from chars.now)) }
 {
-    match scan::at(chars, from) {
-        Some('=') => Ok(Some((LexKind::BehindIs, from + 1))),
-        Some('!') => Ok(Some((LexKind::BehindNot, from + 1))),
-        Some(_) => named(alloc, chars, from),
-        None => Ok(None),
+    match sign(chars, from, LexKind::BehindIs, LexKind::BehindNot) {
+        Some(x) => Ok(Some(x)),
+        None => named(alloc, chars, from),
     }
 }
 
@@ -101,11 +127,21 @@ fn behind(alloc: Global, chars: &[char], from: usize) -> Result<Option<(LexKind,
 fn looking(alloc: Global, chars: &[char], from: usize) -> Result<Option<(LexKind, usize)>, NoMemory>
     requires { from ≤ length chars.now }
     ensures within { IfOk result (λ o. IfSome o (λ x. (from ≤ x.1) × (x.1 ≤ length chars.now))) }
-    ensures value { lex.TakenIn chars.now result (lex.looking (drop from chars.now)) }
+    ensures value { TakenIn chars.now result (forms.looking (drop from chars.now)) }
+{
+    match sign(chars, from, LexKind::AheadIs, LexKind::AheadNot) {
+        Some(x) => Ok(Some(x)),
+        None => back(alloc, chars, from),
+    }
+}
+
+/// Behind `(?`, where a `<` comes.
+fn back(alloc: Global, chars: &[char], from: usize) -> Result<Option<(LexKind, usize)>, NoMemory>
+    requires { from ≤ length chars.now }
+    ensures within { IfOk result (λ o. IfSome o (λ x. (from ≤ x.1) × (x.1 ≤ length chars.now))) }
+    ensures value { TakenIn chars.now result (forms.back (drop from chars.now)) }
 {
     match scan::at(chars, from) {
-        Some('=') => Ok(Some((LexKind::AheadIs, from + 1))),
-        Some('!') => Ok(Some((LexKind::AheadNot, from + 1))),
         Some('<') => behind(alloc, chars, from + 1),
         _ => Ok(None),
     }
@@ -115,7 +151,7 @@ fn looking(alloc: Global, chars: &[char], from: usize) -> Result<Option<(LexKind
 fn round(alloc: Global, chars: &[char], from: usize) -> Result<(LexKind, usize), NoMemory>
     requires { from ≤ length chars.now }
     ensures within { IfOk result (λ x. (from ≤ x.1) × (x.1 ≤ length chars.now)) }
-    ensures value { IfOk result (λ x. lex.round (drop from chars.now) ≡ (x.0, drop x.1 chars.now)) }
+    ensures value { IfOk result (λ x. forms.round (drop from chars.now) ≡ (x.0, drop x.1 chars.now)) }
 {
     match scan::at(chars, from) {
         Some('?') => match looking(alloc, chars, from + 1)? {
@@ -126,6 +162,7 @@ fn round(alloc: Global, chars: &[char], from: usize) -> Result<(LexKind, usize),
     }
 }
 
+/// The value of a digit.
 fn digit(c: char) -> u32
     ensures value { result ≡ c - 48 }
     ensures most { result < 2 ^ 21 }
@@ -135,14 +172,15 @@ fn digit(c: char) -> u32
 
 #[tactic(auto, using(crate::proofs::Texts::value_grows))]
 fn number_from(n: u32, digits: &[char]) -> Option<u32>
-    requires { n ≤ 1000 }
-    ensures { MatchOption result (1000 < spelling.value_from n digits.now) (λ v. (v ≡ spelling.value_from n digits.now) × (v ≤ 1000)) }
+    requires { n ≤ GREATEST_NUMBER }
+    ensures { MatchOption result (GREATEST_NUMBER < spelling.value_from n digits.now)
+        (λ v. (v ≡ spelling.value_from n digits.now) × (v ≤ GREATEST_NUMBER)) }
 {
     match digits {
         [] => Some(n),
         [d, rest @ ..] => {
             let next = n * 10 + digit(*d);
-            if next > 1000 {
+            if next > GREATEST_NUMBER {
                 return None;
             }
             number_from(next, rest)
@@ -169,9 +207,9 @@ pub fn number(digits: &[char]) -> Option<u32>
 fn upper(chars: &[char], a: &[char], from: usize) -> Option<(LexKind, usize)>
     requires { from ≤ length chars.now }
     ensures within { IfSome result (λ x. (from ≤ x.1) × (x.1 ≤ length chars.now)) }
-    ensures value { lex.taken chars.now result ≡ lex.upper_from a.now (drop from chars.now) }
+    ensures value { taken chars.now result ≡ forms.upper_from a.now (drop from chars.now) }
 {
-    let (b, end) = scan::digits(chars, from);
+    let (b, end) = scan::run_at(chars, from, Run::Digits);
     match scan::at(chars, end) {
         Some('}') => match bounds(a, b) {
             Some((least, most)) => Some((LexKind::Range(least, most), end + 1)),
@@ -182,7 +220,7 @@ fn upper(chars: &[char], a: &[char], from: usize) -> Option<(LexKind, usize)>
 }
 
 fn bounds(a: &[char], b: &[char]) -> Option<(u32, Option<u32>)>
-    ensures { result ≡ lex.bounds a.now b.now }
+    ensures { result ≡ forms.bounds a.now b.now }
 {
     if a.is_empty() {
         return match number(b) {
@@ -208,9 +246,9 @@ fn bounds(a: &[char], b: &[char]) -> Option<(u32, Option<u32>)>
 fn range(chars: &[char], from: usize) -> Option<(LexKind, usize)>
     requires { from ≤ length chars.now }
     ensures within { IfSome result (λ x. (from ≤ x.1) × (x.1 ≤ length chars.now)) }
-    ensures value { lex.taken chars.now result ≡ lex.range (drop from chars.now) }
+    ensures value { taken chars.now result ≡ forms.range (drop from chars.now) }
 {
-    let (a, end) = scan::digits(chars, from);
+    let (a, end) = scan::run_at(chars, from, Run::Digits);
     match scan::at(chars, end) {
         Some('}') => match number(a) {
             Some(n) => Some((LexKind::Range(n, Some(n)), end + 1)),
@@ -225,7 +263,7 @@ fn range(chars: &[char], from: usize) -> Option<(LexKind, usize)>
 fn doubled(chars: &[char], from: usize, c: char, one: LexKind, two: LexKind) -> (LexKind, usize)
     requires { from ≤ length chars.now }
     ensures within { (from ≤ result.1) × (result.1 ≤ length chars.now) }
-    ensures value { lex.doubled c one two (drop from chars.now) ≡ (result.0, drop result.1 chars.now) }
+    ensures value { forms.doubled c one two (drop from chars.now) ≡ (result.0, drop result.1 chars.now) }
 {
     match scan::at(chars, from) {
         Some(d) => {
@@ -239,34 +277,29 @@ fn doubled(chars: &[char], from: usize, c: char, one: LexKind, two: LexKind) -> 
 }
 
 /// The first form that fits at a place where c stands, and the place behind it.
-#[tactic(auto, unfolding(crate::specs::Forms::form))]
+#[tactic(auto, unfolding(od_language::specs::Forms::form))]
 pub fn form(alloc: Global, chars: &[char], from: usize, c: char) -> Result<(LexKind, usize), Stop>
     requires { from ≤ length chars.now }
     ensures within { IfOk result (λ x. (from ≤ x.1) × (x.1 ≤ length chars.now)) }
-    ensures value { lex.Forms chars.now result (lex.form c (drop from chars.now)) }
+    ensures value { Forms chars.now result (forms.form c (drop from chars.now)) }
 {
     if scan::begins_word(c) {
         return word(alloc, chars, from, c);
     }
     if c == '"' || c == '\'' {
-        return match scan::quoted(alloc, chars, from, c) {
-            Ok(Some((text, to))) => Ok((LexKind::Quoted(text), to)),
-            Ok(None) => Err(Stop::Miss(Miss::OpenText)),
-            Err(_) => Err(Stop::NoMemory),
+        return match scan::quoted(alloc, chars, from, c)? {
+            Some((text, to)) => Ok((LexKind::Quoted(text), to)),
+            None => Err(Stop::Miss(Miss::OpenText)),
         };
     }
     if c == '/' {
-        return match scan::regex(alloc, chars, from) {
-            Ok(Some((text, to))) => Ok((LexKind::Regex(text), to)),
-            Ok(None) => Err(Stop::Miss(Miss::OpenRegex)),
-            Err(_) => Err(Stop::NoMemory),
+        return match scan::regex(alloc, chars, from)? {
+            Some((text, to)) => Ok((LexKind::Regex(text), to)),
+            None => Err(Stop::Miss(Miss::OpenRegex)),
         };
     }
     if c == '(' {
-        return match round(alloc, chars, from) {
-            Ok(x) => Ok(x),
-            Err(_) => Err(Stop::NoMemory),
-        };
+        return Ok(round(alloc, chars, from)?);
     }
     if c == '{' {
         return match range(chars, from) {
@@ -290,11 +323,8 @@ pub fn form(alloc: Global, chars: &[char], from: usize, c: char) -> Result<(LexK
 fn word(alloc: Global, chars: &[char], from: usize, c: char) -> Result<(LexKind, usize), Stop>
     requires { from ≤ length chars.now }
     ensures within { IfOk result (λ x. (from ≤ x.1) × (x.1 ≤ length chars.now)) }
-    ensures value { lex.Forms chars.now result (Ok (lex.text_of c (drop from chars.now))) }
+    ensures value { Forms chars.now result (Ok (forms.text_of c (drop from chars.now))) }
 {
-    let (rest, end) = scan::word(chars, from);
-    match scan::word_text(alloc, c, rest) {
-        Ok(text) => Ok((LexKind::Word(text), end)),
-        Err(_) => Err(Stop::NoMemory),
-    }
+    let (rest, end) = scan::run_at(chars, from, Run::Word);
+    Ok((LexKind::Word(scan::word_text(alloc, c, rest)?), end))
 }

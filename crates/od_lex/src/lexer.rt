@@ -1,9 +1,11 @@
 //! The lexemes of a text.
-ghost use Rattle.std.specs.Prelude.{◌≡◌, ℕ, ◌+◌, ◌-◌, ◌^◌, ◌<◌, ◌≤◌, List, [], ◌∷◌, ◌++◌, drop, take, length, Option, Some, None, Ok, IfOk, IfErr, OnOk, if◌then◌else◌};
+ghost use Rattle.std.specs.Prelude.{◌≡◌, ℕ, ◌+◌, ◌-◌, ◌^◌, ◌<◌, ◌≤◌, List, [], ◌∷◌, ◌++◌, drop, take, length, Option, Some, None, Ok, IfOk, OnOk, if◌then◌else◌};
 ghost use Rattle.std.specs.Str.{chars as chars_in};
 ghost use Rattle.od_language.specs.declared.lexeme.LexKind.TheVariants as lexeme;
-ghost use Rattle.od_language.specs.Lexing.{size_of as bytes_of, Lexes, OneReading, IsLexFault, GivesLexemes, RefusesText, lex_fault};
-ghost use Rattle.od_lex.specs.Reading.{Formed};
+ghost use Rattle.od_language.specs.Lexing.{size_of as bytes_of, Lexes, OneReading, IsLexFault};
+ghost use Rattle.od_language.specs.Lexed.{lexed};
+ghost use Rattle.od_language.specs.Answers.{IfMiss, GivesLexemes, RefusesText, lex_fault};
+ghost use Rattle.od_language.specs.Formed.{Formed};
 ghost use Rattle.od_language.specs.declared.lexeme.Lexeme.{Lexeme};
 ghost use Rattle.od_language.specs.declared.lexeme.Miss.{Miss};
 
@@ -26,17 +28,14 @@ fn size_of(part: &[char]) -> usize
     size
 }
 
+/// One more lexeme, at a place.
 fn add(out: &mut Vec<Lexeme>, at: usize, kind: LexKind) -> Result<(), NoMemory>
     requires { at < 2 ^ 32 }
     ensures { OnOk result (out.new.items ≡ out.old.items ++ (record { at = at; kind = kind }) ∷ []) }
 {
-    match out.push(Lexeme {
-        at: at as u32,
-        kind,
-    }) {
-        Ok(()) => Ok(()),
-        Err(_) => Err(NoMemory),
-    }
+    let at = at as u32;
+    out.push(Lexeme { at, kind })?;
+    Ok(())
 }
 
 /// The lexemes of these characters.
@@ -84,10 +83,13 @@ pub struct Lexed {
 /// The lexemes of a text up to its first fault, and the fault.
 ///
 /// At each place the longest front that spells a lexeme is one. White space separates lexemes and means nothing else.
-#[tactic(auto, using(crate::proofs::Sizes::bytes_of, crate::proofs::Longest::longest_from))]
+#[tactic(auto, using(crate::proofs::Sizes::bytes_of, od_language::proofs::Lexing::Longest::longest_from, od_language::proofs::Lexing::Readings::computed_from))]
 pub fn lex(alloc: Global, text: &str) -> Result<Lexed, NoMemory>
     requires { length text.now < 2 ^ 32 }
     ensures value { IfOk result (λ read. Lexes 0 (chars_in text.now) read.lexemes.items read.fault) }
+    // They are those that are computed.
+    ensures computed { IfOk result
+        (λ read. lexed (chars_in text.now) ≡ (read.lexemes.items, read.fault)) }
     // There is exactly one such reading.
     ensures one_reading { OneReading (chars_in text.now) }
 {
@@ -101,30 +103,23 @@ pub fn lex(alloc: Global, text: &str) -> Result<Lexed, NoMemory>
 pub fn tokens(alloc: Global, text: &str) -> Result<Vec<Lexeme>, LexFault>
     requires { length text.now < 2 ^ 32 }
     ensures value { IfOk result (λ v. Lexes 0 (chars_in text.now) v.items None) }
-    ensures fault { IfErr result (λ f. IsLexFault (chars_in text.now) f) }
+    ensures fault { IfMiss result (IsLexFault (chars_in text.now)) }
     // Where the text can be split, the lexemes are the answer; where it has a fault, that is, unless memory is refused.
-    ensures only_value { (xs : List Lexeme) → Lexes 0 (chars_in text.now) xs None → GivesLexemes result xs }
-    ensures only_fault { (xs : List Lexeme) (at : ℕ) (m : Miss) → Lexes 0 (chars_in text.now) xs (Some (at, m)) → RefusesText result at m }
+    ensures only_value { (xs : List Lexeme) → Lexes 0 (chars_in text.now) xs None →
+        GivesLexemes result xs }
+    ensures only_fault { (xs : List Lexeme) (at : ℕ) (m : Miss) →
+        Lexes 0 (chars_in text.now) xs (Some (at, m)) → RefusesText result at m }
     // One of the two always holds, and never both.
     ensures one_reading { OneReading (chars_in text.now) }
 {
-    match lex(alloc, text) {
-        Ok(
-            Lexed {
-                lexemes,
-                fault: None,
-            },
-        ) => Ok(lexemes),
-        Ok(
-            Lexed {
-                lexemes: _,
-                fault: Some((at, miss)),
-            },
-        ) => Err(fault_of(at, miss)),
-        Err(_) => Err(LexFault::NoMemory),
+    let read = lex(alloc, text)?;
+    match read.fault {
+        None => Ok(read.lexemes),
+        Some((at, miss)) => Err(fault_of(at, miss)),
     }
 }
 
+/// The fault at a place.
 fn fault_of(at: u32, miss: Miss) -> LexFault
     ensures { result ≡ lex_fault at miss }
 {

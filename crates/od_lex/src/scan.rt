@@ -1,27 +1,27 @@
 //! Runs of characters, and the texts that they spell.
-ghost use Rattle.std.specs.Prelude.{◌≡◌, ℕ, ◌+◌, ◌-◌, ◌^◌, ◌<◌, ◌≤◌, List, [], ◌∷◌, ◌++◌, drop, take, length, Option, Some, None, Ok, MatchOption, IfOk, IfSome, OnOk, IsTrue, string_bytes, Bool, true, false};
+ghost use Rattle.std.specs.Prelude.{◌≡◌, ℕ, ◌+◌, ◌-◌, ◌^◌, ◌<◌, ◌≤◌, List, [], ◌∷◌, ◌++◌, drop, take, length, Option, Some, None, Ok, MatchOption, IfOk, IfSome, OnOk, IsTrue, string_bytes, Bool, true, false, encode_utf8};
 ghost use Rattle.std.specs.List.{prefix_len};
-ghost use Rattle.std.specs.Char.{encode_utf8, is_ascii_digit};
 ghost use Rattle.std.specs.Str.{encode_utf8_all, chars as chars_in};
-ghost use Rattle.od_lex.specs.Forms as lex;
+ghost use Rattle.od_language.specs.Forms as forms;
 ghost use Rattle.od_language.specs.Identifier as identifier;
 ghost use Rattle.od_language.specs.Spelling as spelling;
+ghost use Rattle.od_lex.specs.Runs.{passes};
+ghost use Rattle.od_lex.specs.Taken.{FoundIn};
 
 use od_text::text::{NoMemory, Text};
 use std::alloc::Global;
 
 /// The characters of a text.
+#[tactic(auto, using(std::proofs::lemmas::Str::chars_from_encodes))]
 pub fn chars_of(alloc: Global, text: &str) -> Result<Vec<char>, NoMemory>
     ensures { IfOk result (λ v. v.items ≡ chars_in text.now) }
 {
-    match text.chars().collect(alloc) {
-        Ok(v) => Ok(v),
-        Err(_) => Err(NoMemory),
-    }
+    Ok(text.chars().collect(alloc)?)
 }
 
 pub fn at(chars: &[char], i: usize) -> Option<char>
-    ensures { MatchOption result (drop i chars.now ≡ []) (λ c. (drop i chars.now ≡ c ∷ drop (i + 1) chars.now) × (i < length chars.now)) }
+    ensures { MatchOption result (drop i chars.now ≡ [])
+        (λ c. (drop i chars.now ≡ c ∷ drop (i + 1) chars.now) × (i < length chars.now)) }
 {
     chars.get(i).copied()
 }
@@ -50,16 +50,38 @@ pub fn in_identifier(c: char) -> bool
     c.is_ascii_alphanumeric() || c == '_'
 }
 
-/// Where a word ends.
+/// Which characters a run has.
+#[derive(Clone, Copy, Debug, PartialEq, Eq)]
+pub enum Run {
+    /// Those that go on with a word.
+    Word,
+    /// Those of an identifier.
+    Name,
+    /// The ASCII digits.
+    Digits,
+}
+
+/// Whether a character goes on with a run.
+fn goes_on(run: Run, c: char) -> bool
+    ensures { result ≡ passes run c }
+{
+    match run {
+        Run::Word => in_word(c),
+        Run::Name => in_identifier(c),
+        Run::Digits => c.is_ascii_digit(),
+    }
+}
+
+/// Where a run ends.
 #[tactic(auto, using(crate::proofs::Texts::prefix_most))]
-pub fn word_end(chars: &[char], from: usize) -> usize
+fn run_end(chars: &[char], from: usize, run: Run) -> usize
     requires { from ≤ length chars.now }
     ensures within { result ≤ length chars.now }
-    ensures value { result ≡ from + prefix_len spelling.in_word (drop from chars.now) }
+    ensures value { result ≡ from + prefix_len (passes run) (drop from chars.now) }
 {
     let mut i = from;
     while let Some(c) = at(chars, i) {
-        if !in_word(c) {
+        if !goes_on(run, c) {
             return i;
         }
         i += 1;
@@ -67,59 +89,46 @@ pub fn word_end(chars: &[char], from: usize) -> usize
     i
 }
 
-/// Where a name ends.
-#[tactic(auto, using(crate::proofs::Texts::prefix_most))]
-pub fn name_end(chars: &[char], from: usize) -> usize
+/// The characters of a run at a place, and the place behind them.
+#[tactic(auto, using(crate::proofs::Texts::prefix_most, crate::proofs::Texts::part_is, crate::proofs::Texts::rest_is))]
+pub fn run_at(chars: &[char], from: usize, run: Run) -> (&[char], usize)
     requires { from ≤ length chars.now }
-    ensures within { result ≤ length chars.now }
-    ensures value { result ≡ from + prefix_len identifier.in_identifier (drop from chars.now) }
+    ensures part { result.0.now ≡ take (prefix_len (passes run) (drop from chars.now)) (drop from chars.now) }
+    ensures rest { drop result.1 chars.now ≡ drop (prefix_len (passes run) (drop from chars.now)) (drop from chars.now) }
+    ensures within { (from ≤ result.1) × (result.1 ≤ length chars.now) }
 {
-    let mut i = from;
-    while let Some(c) = at(chars, i) {
-        if !in_identifier(c) {
-            return i;
-        }
-        i += 1;
-    }
-    i
+    let end = run_end(chars, from, run);
+    (&chars[from..end], end)
 }
 
-/// Where digits end.
-#[tactic(auto, using(crate::proofs::Texts::prefix_most))]
-pub fn digits_end(chars: &[char], from: usize) -> usize
-    requires { from ≤ length chars.now }
-    ensures within { result ≤ length chars.now }
-    ensures value { result ≡ from + prefix_len is_ascii_digit (drop from chars.now) }
+/// These characters at the end of a text.
+#[tactic(auto, using(crate::proofs::Texts::spelled_more, std::proofs::Common::append_assoc))]
+fn spell(text: &mut Text, part: &[char]) -> Result<(), NoMemory>
+    ensures { OnOk result (text.new ≡ text.old ++ encode_utf8_all part.now) }
 {
-    let mut i = from;
-    while let Some(c) = at(chars, i) {
-        if !c.is_ascii_digit() {
-            return i;
-        }
-        i += 1;
+    for c in part {
+        text.push(*c)?;
     }
-    i
-}
-
-pub fn push(text: &mut String, c: char) -> Result<(), NoMemory>
-    ensures { OnOk result (string_bytes text.new ≡ string_bytes text.old ++ encode_utf8 c) }
-{
-    match text.push(c) {
-        Ok(()) => Ok(()),
-        Err(_) => Err(NoMemory),
-    }
+    Ok(())
 }
 
 /// The text of these characters.
-#[tactic(auto, using(crate::proofs::Texts::spelled_more))]
 pub fn spelled(alloc: Global, part: &[char]) -> Result<Text, NoMemory>
     ensures { IfOk result (λ t. t ≡ encode_utf8_all part.now) }
 {
-    let mut text = String::new(alloc);
-    for c in part {
-        push(&mut text, *c)?;
-    }
-    Ok(Text::from_string(text))
+    let mut text = Text::new(alloc);
+    spell(&mut text, part)?;
+    Ok(text)
+}
+
+/// The text of a character and these.
+pub fn word_text(alloc: Global, first: char, part: &[char]) -> Result<Text, NoMemory>
+    ensures { IfOk result (λ t. t ≡ encode_utf8 first ++ encode_utf8_all part.now) }
+{
+    let mut text = Text::new(alloc);
+    text.push(first)?;
+    spell(&mut text, part)?;
+    Ok(text)
 }
 
 /// What stands up to the closing quote, and the place behind it.
@@ -131,26 +140,26 @@ pub fn quoted(
     quote: char,
 ) -> Result<Option<(Text, usize)>, NoMemory>
     ensures within { IfOk result (λ o. IfSome o (λ x. (from ≤ x.1) × (x.1 ≤ length chars.now))) }
-    ensures value { lex.FoundIn chars.now result (lex.quoted quote false (drop from chars.now)) }
+    ensures value { FoundIn chars.now result (forms.quoted quote false (drop from chars.now)) }
 {
-    let mut text = String::new(alloc);
+    let mut text = Text::new(alloc);
     let mut escaped = false;
     let mut i = from;
     while let Some(c) = at(chars, i) {
         i += 1;
         if escaped {
             escaped = false;
-            push(&mut text, c)?;
+            text.push(c)?;
             continue;
         }
         if c == quote {
-            return Ok(Some((Text::from_string(text), i)));
+            return Ok(Some((text, i)));
         }
         if c == '\\' {
             escaped = true;
             continue;
         }
-        push(&mut text, c)?;
+        text.push(c)?;
     }
     Ok(None)
 }
@@ -159,9 +168,9 @@ pub fn quoted(
 #[tactic(auto, using(crate::proofs::Texts::before_more, crate::proofs::Texts::before_none))]
 pub fn regex(alloc: Global, chars: &[char], from: usize) -> Result<Option<(Text, usize)>, NoMemory>
     ensures within { IfOk result (λ o. IfSome o (λ x. (from ≤ x.1) × (x.1 ≤ length chars.now))) }
-    ensures value { lex.FoundIn chars.now result (lex.regex false (drop from chars.now)) }
+    ensures value { FoundIn chars.now result (forms.regex false (drop from chars.now)) }
 {
-    let mut text = String::new(alloc);
+    let mut text = Text::new(alloc);
     let mut paired = false;
     let mut i = from;
     while let Some(c) = at(chars, i) {
@@ -172,73 +181,24 @@ pub fn regex(alloc: Global, chars: &[char], from: usize) -> Result<Option<(Text,
             continue;
         }
         if c == '/' {
-            return Ok(Some((Text::from_string(text), i)));
+            return Ok(Some((text, i)));
         }
         if c == '\\' {
             paired = true;
             continue;
         }
-        push(&mut text, c)?;
+        text.push(c)?;
     }
     Ok(None)
 }
 
 /// The pair of a backslash and a character; that of a slash is the slash alone.
-fn push_pair(text: &mut String, c: char) -> Result<(), NoMemory>
-    ensures { OnOk result (string_bytes text.new ≡ string_bytes text.old ++ spelling.pair c) }
+fn push_pair(text: &mut Text, c: char) -> Result<(), NoMemory>
+    ensures { OnOk result (text.new ≡ text.old ++ spelling.pair c) }
 {
     if c == '/' {
-        return push(text, c);
+        return text.push(c);
     }
-    push(text, '\\')?;
-    push(text, c)
-}
-
-/// The digits at a place, and the place behind them.
-#[tactic(auto, using(crate::proofs::Texts::prefix_most, crate::proofs::Texts::part_is, crate::proofs::Texts::rest_is))]
-pub fn digits(chars: &[char], from: usize) -> (&[char], usize)
-    requires { from ≤ length chars.now }
-    ensures part { result.0.now ≡ take (prefix_len is_ascii_digit (drop from chars.now)) (drop from chars.now) }
-    ensures rest { drop result.1 chars.now ≡ drop (prefix_len is_ascii_digit (drop from chars.now)) (drop from chars.now) }
-    ensures within { (from ≤ result.1) × (result.1 ≤ length chars.now) }
-{
-    let end = digits_end(chars, from);
-    (&chars[from..end], end)
-}
-
-/// The letters of a name at a place, and the place behind them.
-#[tactic(auto, using(crate::proofs::Texts::prefix_most, crate::proofs::Texts::part_is, crate::proofs::Texts::rest_is))]
-pub fn name(chars: &[char], from: usize) -> (&[char], usize)
-    requires { from ≤ length chars.now }
-    ensures part { result.0.now ≡ take (prefix_len identifier.in_identifier (drop from chars.now)) (drop from chars.now) }
-    ensures rest { drop result.1 chars.now ≡ drop (prefix_len identifier.in_identifier (drop from chars.now)) (drop from chars.now) }
-    ensures within { (from ≤ result.1) × (result.1 ≤ length chars.now) }
-{
-    let end = name_end(chars, from);
-    (&chars[from..end], end)
-}
-
-/// The further characters of a word, and the place behind them.
-#[tactic(auto, using(crate::proofs::Texts::prefix_most, crate::proofs::Texts::part_is, crate::proofs::Texts::rest_is))]
-pub fn word(chars: &[char], from: usize) -> (&[char], usize)
-    requires { from ≤ length chars.now }
-    ensures part { result.0.now ≡ take (prefix_len spelling.in_word (drop from chars.now)) (drop from chars.now) }
-    ensures rest { drop result.1 chars.now ≡ drop (prefix_len spelling.in_word (drop from chars.now)) (drop from chars.now) }
-    ensures within { (from ≤ result.1) × (result.1 ≤ length chars.now) }
-{
-    let end = word_end(chars, from);
-    (&chars[from..end], end)
-}
-
-/// The text of a character and these.
-#[tactic(auto, using(crate::proofs::Texts::spelled_more, std::proofs::Common::append_assoc))]
-pub fn word_text(alloc: Global, first: char, part: &[char]) -> Result<Text, NoMemory>
-    ensures { IfOk result (λ t. t ≡ encode_utf8 first ++ encode_utf8_all part.now) }
-{
-    let mut text = String::new(alloc);
-    push(&mut text, first)?;
-    for c in part {
-        push(&mut text, *c)?;
-    }
-    Ok(Text::from_string(text))
+    text.push('\\')?;
+    text.push(c)
 }

@@ -56,6 +56,7 @@ barking = record {
   edges = edges;
   some = lit< tt;
   few = lit≤ tt;
+  few_edges = lit≤ tt;
   ends = within 3 edges ((lit< tt, lit< tt), ((lit< tt, lit< tt), tt));
   distinct = refl;
 }

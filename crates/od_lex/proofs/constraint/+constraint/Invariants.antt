@@ -1,6 +1,7 @@
 use Rattle.std.proofs.Common.{◌≡◌, ◌+◌, ◌-◌, ◌*◌, ◌<◌, drop, length, Option, None}
 use Rattle.od_pattern.specs.declared.pattern.Constraint.{Constraint}
-use Rattle.od_lex.specs.Machine.{Open, operand, after, run, NoAnd}
+use Rattle.od_language.specs.ConstraintMachine.{Open, operand, after}
+use Rattle.od_lex.specs.Machine.{run, NoAnd}
 use Rattle.od_lex.proofs.constraint.+constraint.Given as goal
 
 abbrev pub decreases-bare_operand : goal.decreases-bare_operand

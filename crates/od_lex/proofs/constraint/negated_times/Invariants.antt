@@ -1,5 +1,5 @@
 use Rattle.std.proofs.Common.{◌≡◌, ◌-◌}
-use Rattle.od_lex.specs.Machine.{negated}
+use Rattle.od_language.specs.ConstraintMachine.{negated}
 use Rattle.od_lex.proofs.constraint.negated_times.Given as goal
 
 abbrev pub invariant-loop-k : goal.invariant-loop-k

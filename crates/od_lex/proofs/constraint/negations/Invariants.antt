@@ -1,6 +1,7 @@
 use Rattle.std.proofs.Common.{◌≡◌, ℕ, ◌+◌, ◌-◌, drop, length, Option}
 use Rattle.od_pattern.specs.declared.pattern.Constraint.{Constraint}
-use Rattle.od_lex.specs.Machine.{Open, operand, run}
+use Rattle.od_language.specs.ConstraintMachine.{Open, operand}
+use Rattle.od_lex.specs.Machine.{run}
 use Rattle.od_lex.proofs.constraint.negations.Given as goal
 
 abbrev pub invariant-loop-x : goal.invariant-loop-x

@@ -1,4 +1,4 @@
-use Rattle.od_lex.proofs.Readings.{one_reading}
+use Rattle.od_language.proofs.Lexing.Readings.{one_reading}
 use Rattle.od_lex.proofs.lexer.lex.Goals as goal
 
 pub returns-in_err-chars-clause-one_reading : goal.returns-in_err-chars-clause-one_reading

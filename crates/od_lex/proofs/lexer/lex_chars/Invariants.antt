@@ -2,7 +2,7 @@ use Rattle.std.proofs.Common.{◌≡◌, ℕ, ◌+◌, ◌-◌, ◌≤◌, List,
 use Rattle.od_language.specs.declared.lexeme.Lexeme.{Lexeme}
 use Rattle.od_language.specs.declared.lexeme.Miss.{Miss}
 use Rattle.od_language.specs.Lexing.{size_of as bytes}
-use Rattle.od_lex.specs.Reading.{Formed}
+use Rattle.od_language.specs.Formed.{Formed}
 use Rattle.od_lex.proofs.lexer.lex_chars.Given as goal
 
 abbrev pub invariant-loop-at : goal.invariant-loop-at

@@ -1,0 +1,4 @@
+pub mod Spelled
+pub mod Reaches
+pub mod Longest
+pub mod Readings

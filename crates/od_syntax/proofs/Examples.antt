@@ -1,0 +1,74 @@
+-- The worked cases are computed.
+use Rattle.std.proofs.Common.{refl}
+use lib.Utf8.{encode}
+use denote.Hole.Carrier.{hidden}
+use Rattle.od_pattern.specs.declared.pattern.Surface.TheBlock.{hidden-the_row-Surface-0, hidden-the_row-Surface-1}
+use Rattle.od_language.specs.Fields.{field_named}
+use Rattle.od_language.specs.Forms.{form}
+use Rattle.od_syntax.specs.Examples.{SurfaceExamples, PathExamples, EventExamples, StepsExamples}
+
+pub surface_examples : SurfaceExamples
+unfolding form field_named encode hidden hidden-the_row-Surface-0 hidden-the_row-Surface-1
+surface_examples = record {
+  empty = refl;
+  blank = refl;
+  close_before_character = refl;
+  field_before_character = refl;
+  range_before_open_text = refl;
+  character = refl;
+  field_without_equal = refl;
+  field_alone = refl;
+  no_equal = refl;
+  no_identifier = refl;
+  no_identifier_later = refl;
+  no_steps = refl;
+  no_turn = refl;
+  no_turn_between = refl;
+  no_turn_at_most = refl;
+  no_number = refl;
+  no_digits = refl;
+  leading_zero = refl;
+  great_number = refl;
+  nullable_body = refl;
+  nullable_place = refl;
+  same_capture_in_choices = refl;
+}
+
+pub path_examples : PathExamples
+unfolding form field_named encode hidden hidden-the_row-Surface-0 hidden-the_row-Surface-1
+path_examples = record {
+  empty = refl;
+  lazy = refl;
+  word = refl;
+  choice = refl;
+  not_closed = refl;
+}
+
+pub event_examples : EventExamples
+unfolding form field_named encode hidden hidden-the_row-Surface-0 hidden-the_row-Surface-1
+event_examples = record {
+  empty = refl;
+  blank = refl;
+  label_of_trigger = refl;
+  quantifier_of_trigger = refl;
+  no_trigger = refl;
+  trigger_is_no_hop = refl;
+  no_path = refl;
+  no_label = refl;
+  text_ends_at_its_line = refl;
+}
+
+pub steps_examples : StepsExamples
+unfolding form field_named encode hidden hidden-the_row-Surface-0 hidden-the_row-Surface-1
+steps_examples = record {
+  at_the_beginning = refl;
+  in_a_surface = refl;
+  behind_a_choice = refl;
+  in_a_constraint = refl;
+  in_a_negation = refl;
+  in_a_filter = refl;
+  before_a_constraint = refl;
+  outside_choices = refl;
+  first_bracket_alone = refl;
+  inner_steps = refl;
+}

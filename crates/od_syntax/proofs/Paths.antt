@@ -1,0 +1,4 @@
+pub mod Moves
+pub mod Complete
+pub mod Sound
+pub mod Closing

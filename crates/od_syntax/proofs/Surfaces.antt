@@ -1,0 +1,5 @@
+pub mod Complete
+pub mod Sound
+pub mod Closing
+pub mod Reader
+pub mod Rules
