@@ -1,4 +1,5 @@
-use Rattle.std.proofs.Common.{Err, ap, sym, subst}
+use Rattle.std.proofs.Common.{◌≡◌, ℕ, List, Err, ap, sym, subst}
+use Rattle.std.specs.Option.{IfSome}
 use Rattle.od_model.specs.Run.Clients.{IsRunnable}
 use Rattle.od_model.proofs.Runnable.{script-runnable}
 use Rattle.od_serve.proofs.Outcomes.{long-is-no-script, ok-weaker}
@@ -10,3 +11,12 @@ returns-in-Err-TooLong-clause-fault g c = long-is-no-script (g.S.Source.left c.a
 pub returns-in-Ok-read_script-clause-runnable : goal.returns-in-Ok-read_script-clause-runnable
 returns-in-Ok-read_script-clause-runnable g c = ok-weaker c.accept.result _ IsRunnable
     (λ script same. subst IsRunnable (sym same.0) (script-runnable c.get.result.now c.in-Ok-read_script.script c.in-Ok-read_script.ensures.ok)) c.accept.ensures.accepted
+
+pub returns-in-Ok-read_script-clause-fault : goal.returns-in-Ok-read_script-clause-fault
+returns-in-Ok-read_script-clause-fault g c =
+    let left = g.S.Source.left c.args.source.now in
+    c.accept.ensures.refused left (record {
+      bytes = c.get.result.now;
+      reads = c.in-Ok-read_script.ensures.ok;
+      told = subst (λ (bytes : List ℕ). IfSome left (λ known. bytes ≡ known)) (sym c.get.ensures) c.in-Ok.ensures.whole;
+    })
