@@ -1,12 +1,10 @@
 use crate::examples::{Ask, DOGS, command, head};
 use od_command::history::{Command, Refusal, Reply};
-use od_document::conllu::ConlluKind;
 use od_extraction::phase::Phase;
 use od_text::text::{Bytes, NoMemory, Text};
 use od_workspace::workspace::Workspace;
 use od_workspace::workspace::change::Answer;
 use std::alloc::{AllocError, Global};
-use std::process::Abort;
 use std::test::Fail;
 
 /// A sentence of the word `bark`.
@@ -36,20 +34,6 @@ fn refusal(
         Reply::Refused(refusal) => Ok(Some(refusal)),
         _ => Ok(None),
     }
-}
-
-/// Asks one after another of an empty object, and compares the refusals.
-fn refuses(
-    rt: &impl Abort,
-    alloc: Global,
-    asks: &[(u32, Ask, Option<Refusal>)],
-) -> Result<(), NoMemory> {
-    let mut workspace = Workspace::new(alloc);
-    for (caller, ask, wanted) in asks {
-        let refused = refusal(&mut workspace, alloc, *caller, command(alloc, *ask)?)?;
-        assert_eq!(rt; refused, *wanted, "to {ask:?}");
-    }
-    Ok(())
 }
 
 /// With memory at hand no command of a session's life is answered by want of it.
