@@ -1,5 +1,5 @@
 -- Notes of where mentions stand find them.
-use Rattle.std.proofs.Common.{◌≡◌, ℕ, zero, suc, List, [], ◌∷◌, ◌++◌, length, Option, Some, None, Bool, true, false, cond, eqb, refl, sym, ap, ap₂, ◌∙◌, subst, inl, inr, ◌⊎◌}
+use Rattle.std.proofs.Common.{◌≡◌, ℕ, zero, suc, ◌+◌, ◌<◌, List, [], ◌∷◌, ◌++◌, length, map, take, get_or, arith, Option, Some, None, Bool, true, false, cond, eqb, refl, sym, ap, ap₂, ◌∙◌, subst, inl, inr, ◌⊎◌}
 use Rattle.std.specs.Prelude.{nat_eq, slice_get}
 use Rattle.std.specs.List.{list_any}
 use Rattle.std.proofs.lemmas.Bool.{or_cases, or_left, or_right, and_parts, and_from, eqb-true, eq-eqb}
@@ -176,3 +176,28 @@ complete_more before after rounds taken m hash p hashes is says c = record {
             subst (λ h. is_noted after h q ≡ true) whose (subst (λ x. is_noted after hash x ≡ true) same (new_note before after hash p says))
       ];
 }
+
+head_same : (x y : ℕ) (xs ys : List ℕ) → x ∷ xs ≡ y ∷ ys → x ≡ y
+head_same x y xs ys e = cc
+
+tail_same : (x y : ℕ) (xs ys : List ℕ) → x ∷ xs ≡ y ∷ ys → xs ≡ ys
+tail_same x y xs ys e = cc
+
+-- the mention at a place of some hashed ones, behind those before it
+pub record HashedAt (mentions : List Mention) (hashes : List ℕ) (i : ℕ) (hash : ℕ) : Type 0 where
+  pub mention : Mention
+  pub more : take (suc i) mentions ≡ take i mentions ++ mention ∷ []
+  pub before : length (take i mentions) ≡ i
+  pub hash_is : hash ≡ mention_hash mention
+
+hashed_behind : (m : Mention) (mentions : List Mention) (hashes : List ℕ) (x i hash : ℕ) → HashedAt mentions hashes i hash → HashedAt (m ∷ mentions) (x ∷ hashes) (suc i) hash
+hashed_behind m mentions hashes x i hash h = record { mention = h.mention; more = ap (λ l. m ∷ l) h.more; before = ap suc h.before; hash_is = h.hash_is }
+
+pub hashed_at : (mentions : List Mention) (hashes : List ℕ) (i d : ℕ) → hashes ≡ map mention_hash mentions → i < length hashes → HashedAt mentions hashes i (get_or hashes i d)
+hashed_at [] hashes i d are h = absurd (omega (arith, h, ap length are))
+hashed_at (m ∷ mentions) [] i d are h = absurd (omega (arith, h))
+hashed_at (m ∷ mentions) (x ∷ hashes) zero d are h = record { mention = m; more = refl; before = refl; hash_is = head_same x (mention_hash m) hashes (map mention_hash mentions) are }
+hashed_at (m ∷ mentions) (x ∷ hashes) (suc i) d are h =
+    let head : x ≡ mention_hash m = head_same x (mention_hash m) hashes (map mention_hash mentions) are in
+    let rest : hashes ≡ map mention_hash mentions = tail_same x (mention_hash m) hashes (map mention_hash mentions) are in
+    hashed_behind m mentions hashes x i (get_or hashes i d) (hashed_at mentions hashes i d rest (omega (arith, h)))

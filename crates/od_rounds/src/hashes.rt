@@ -1,11 +1,9 @@
 //! Hashes of mentions.
 ghost use Rattle.std.specs.Prelude.{◌≡◌};
 ghost use Rattle.od_rounds.specs.Candidates.{mention_of};
-ghost use Rattle.od_rounds.specs.Hashes.{mixed, text_hash, label_hash, part_hash, site_hash, mention_hash};
+ghost use Rattle.od_rounds.specs.Hashes.{mixed, text_hash, site_hash, mention_hash};
 
 use crate::candidate::{Candidate, LABEL, RULE};
-use od_extraction::mention::{Mention, Part};
-use od_text::text::Text;
 
 /// The start of every hash: the offset of FNV-1a with 64 bits.
 const OFFSET: u64 = 0xcbf2_9ce4_8422_2325;
@@ -33,24 +31,6 @@ fn mix_text(hash: u64, text: &str) -> u64
     state
 }
 
-/// A hash with a label more, where there is one.
-fn mix_label(hash: u64, label: &Option<Text>) -> u64
-    ensures { result ≡ label_hash hash label.now }
-{
-    match label {
-        None => mix(hash, 0),
-        Some(text) => mix_text(mix(hash, 1), text.get()),
-    }
-}
-
-/// A hash with a part more.
-fn mix_part(hash: u64, part: &Part) -> u64
-    ensures { result ≡ part_hash hash part.now }
-{
-    let hash = mix_label(mix_text(hash, part.name.get()), &part.label);
-    mix(mix(hash, part.start as u64), part.end as u64)
-}
-
 /// The hash of where a mention stands.
 fn hash_site(document: u32, sentence: u32, start: u32, end: u32) -> u64
     ensures { result ≡ site_hash document sentence start end }
@@ -66,22 +46,4 @@ pub fn hash_candidate(c: Candidate) -> u64
 {
     let site = hash_site(c.document, c.sentence, c.start, c.end);
     mix_text(mix_text(site, LABEL), RULE)
-}
-
-/// The hash of a mention: of all that it has.
-#[tactic(auto, unfolding(crate::specs::Hashes::mention_hash))]
-pub fn hash_mention(mention: &Mention) -> u64
-    ensures { result ≡ mention_hash mention.now }
-{
-    let site = hash_site(
-        mention.document,
-        mention.sentence,
-        mention.start,
-        mention.end,
-    );
-    let mut state = mix_text(mix_text(site, mention.label.get()), mention.rule.get());
-    for part in mention.parts.get() {
-        state = mix_part(state, part);
-    }
-    state
 }

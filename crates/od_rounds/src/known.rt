@@ -9,7 +9,7 @@ ghost use Rattle.od_rounds.specs.Hashes.{mention_hash};
 ghost use Rattle.od_rounds.specs.Known.{noted, mention_at, has_at, IsComplete, NotesOne, NotesSame};
 
 use crate::candidate::Candidate;
-use crate::hashes::hash_mention;
+use crate::hashed::Hashed;
 use od_extraction::mention::Mention;
 use od_text::list::List;
 use od_text::text::NoMemory;
@@ -116,21 +116,21 @@ impl Known {
         &mut self,
         alloc: Global,
         rounds: &[List<Mention>],
-        added: &[Mention],
+        added: &Hashed,
     ) -> Result<(), NoMemory>
         requires complete { IsComplete self.old rounds.now }
         requires few_rounds { length rounds.now < 2 ^ 32 }
-        requires few_mentions { length added.now < 2 ^ 32 }
+        requires few_mentions { length added.now.mentions < 2 ^ 32 }
         ensures kept { IsComplete self.new rounds.now }
-        ensures added { OnOk result (IsComplete self.new (rounds.now ++ added.now ∷ [])) }
+        ensures added { OnOk result (IsComplete self.new (rounds.now ++ added.now.mentions ∷ [])) }
     {
         let round = rounds.len() as u32;
-        for (index, mention) in added.iter().enumerate() {
+        for (index, hash) in added.hashes.iter().enumerate() {
             let place = Place {
                 round,
                 index: index as u32,
             };
-            self.note(alloc, hash_mention(mention), place)?;
+            self.note(alloc, *hash, place)?;
         }
         Ok(())
     }
@@ -163,16 +163,20 @@ mod tests {
     fn finds_the_mentions_of_each_round(rt: HostRuntime) -> Result<(), Fail> {
         let alloc = rt.alloc();
         let mut known = Known::new(alloc);
-        let mut first = List::new(alloc);
-        first.push(candidate(0, 1).make(alloc)?)?;
-        first.push(candidate(0, 5).make(alloc)?)?;
-        known.extend(alloc, &[], first.get())?;
         let mut rounds = List::new(alloc);
-        rounds.push(first)?;
-        let mut second = List::new(alloc);
-        second.push(candidate(2, 1).make(alloc)?)?;
-        known.extend(alloc, rounds.get(), second.get())?;
-        rounds.push(second)?;
+        for round in [&[(0, 1), (0, 5)] as &[(u32, u32)], &[(2, 1)]] {
+            let mut added = Hashed::new(alloc);
+            for (document, start) in round {
+                let candidate = candidate(*document, *start);
+                added.push(hash_candidate(candidate), candidate.make(alloc)?)?;
+            }
+            known.extend(alloc, rounds.get(), &added)?;
+            let Hashed {
+                mentions,
+                hashes: _,
+            } = added;
+            rounds.push(mentions)?;
+        }
         assert!(rt; holds(&known, rounds.get(), candidate(0, 1)));
         assert!(rt; holds(&known, rounds.get(), candidate(0, 5)));
         assert!(rt; holds(&known, rounds.get(), candidate(2, 1)));

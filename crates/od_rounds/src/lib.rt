@@ -2,6 +2,7 @@
 #![tactic(auto)]
 
 mod candidate;
+pub mod hashed;
 mod hashes;
 pub mod known;
 pub mod round;

@@ -9,15 +9,17 @@ ghost use Rattle.od_extraction.specs.Joined.{joined};
 ghost use Rattle.od_matching.specs.Rounds.Phases.{ends_empty};
 ghost use Rattle.od_session.specs.Parts.{phase_with, round_at};
 ghost use Rattle.od_rounds.specs.Known.{IsComplete};
+ghost use Rattle.od_rounds.specs.NextRounds.{given_by};
 ghost use Rattle.od_rounds.specs.Phases.{phase_by};
 ghost use Rattle.od_rounds.specs.Queries.{document_items, all_items};
 ghost use Rattle.od_rounds.specs.Walks.{IsWeighed, LeadsTo};
 
+use crate::hashed::Hashed;
 use crate::known::Known;
 use crate::scan::candidates_of;
 use crate::walk::{Earlier, Walk};
 use od_document::doc::Doc;
-use od_extraction::mention::{Mention, RoundResult};
+use od_extraction::mention::Mention;
 use od_extraction::phase::Phase;
 use od_session::object::SessionState;
 use od_text::list::List;
@@ -34,12 +36,12 @@ fn visit_document(
     doc: &Doc,
 ) -> Result<Option<u64>, NoMemory>
     requires some { 0 < length words.now }
-    requires weighed { IsWeighed (joined earlier.now.rounds.now) walk.old.found walk.old.total }
-    ensures weighed { IsWeighed (joined earlier.now.rounds.now) walk.new.found walk.new.total }
+    requires weighed { IsWeighed (joined earlier.now.rounds.now) walk.old.found.mentions walk.old.total }
+    ensures weighed { IsWeighed (joined earlier.now.rounds.now) walk.new.found.mentions walk.new.total }
     ensures met { IfOk result (λ heavy.
         LeadsTo (joined earlier.now.rounds.now)
         (document_items words.now (joined earlier.now.rounds.now) (document, doc.now))
-        walk.old.found heavy walk.new.found) }
+        walk.old.found.mentions heavy walk.new.found.mentions) }
 {
     for (number, sentence) in doc.sentences.get().iter().enumerate() {
         let found = candidates_of(alloc, words, document, number as u32, sentence)?;
@@ -60,11 +62,11 @@ fn visit_documents(
 ) -> Result<Option<u64>, NoMemory>
     requires some { 0 < length words.now }
     requires few { length docs.now < 2 ^ 32 }
-    requires weighed { IsWeighed (joined earlier.now.rounds.now) walk.old.found walk.old.total }
+    requires weighed { IsWeighed (joined earlier.now.rounds.now) walk.old.found.mentions walk.old.total }
     ensures met { IfOk result (λ heavy.
         LeadsTo (joined earlier.now.rounds.now)
         (all_items words.now (joined earlier.now.rounds.now) docs.now)
-        walk.old.found heavy walk.new.found) }
+        walk.old.found.mentions heavy walk.new.found.mentions) }
 {
     for (document, doc) in docs.iter().enumerate() {
         if let Some(total) = visit_document(alloc, words, earlier, walk, document as u32, doc)? {
@@ -72,6 +74,14 @@ fn visit_documents(
         }
     }
     Ok(None)
+}
+
+/// What a next round gives: mentions, or the weight that is too great. A query of plain words is never crowded.
+#[derive(Debug, Drop)]
+pub enum NextRound {
+    Found(Hashed),
+    /// With one mention more the session would weigh so much.
+    TooMany { weight: u64 },
 }
 
 /// What the next round of a session gives that runs a query of plain words, over the documents
@@ -84,14 +94,14 @@ pub fn next_round(
     words: &[Text],
     known: &Known,
     total: u64,
-) -> Result<RoundResult, NoMemory>
+) -> Result<NextRound, NoMemory>
     requires query { grammar_of state.now.kind state.now.text ≡ Some (query_grammar state.now.text) }
     requires words_are { words.now ≡ map fold_text (words_of state.now.text) }
     requires noted { IsComplete known.now state.now.rounds }
     requires distinct { distinct (joined state.now.rounds) ≡ joined state.now.rounds }
     requires weighs { total ≡ weight (joined state.now.rounds) }
     requires light { total ≤ most_weight }
-    ensures { IfOk result (λ r. r ≡ round_at docs.now state.now) }
+    ensures { IfOk result (λ next. given_by next ≡ round_at docs.now state.now) }
 {
     let count = docs.len().min(state.documents as usize);
     let earlier = Earlier {
@@ -100,8 +110,8 @@ pub fn next_round(
     };
     let mut walk = Walk::new(alloc, total);
     match visit_documents(alloc, words, &earlier, &mut walk, &docs[..count])? {
-        Some(weight) => Ok(RoundResult::TooMany { weight }),
-        None => Ok(RoundResult::Found(walk.into_found())),
+        Some(weight) => Ok(NextRound::TooMany { weight }),
+        None => Ok(NextRound::Found(walk.into_found())),
     }
 }
 

@@ -10,6 +10,7 @@ ghost use Rattle.od_rounds.specs.Queries.{candidate_items};
 ghost use Rattle.od_rounds.specs.Walks.{IsWeighed, LeadsTo};
 
 use crate::candidate::Candidate;
+use crate::hashed::Hashed;
 use crate::hashes::hash_candidate;
 use crate::known::{Known, Place};
 use od_extraction::mention::{Mention, SESSION_WEIGHT};
@@ -30,10 +31,10 @@ pub struct Earlier<'a> {
 /// before.
 #[derive(Drop)]
 pub struct Walk {
-    pub found: List<Mention>,
+    pub found: Hashed,
     pub fresh: Known,
     pub total: u64,
-    pub ghost noted: { IsComplete fresh (found ∷ []) },
+    pub ghost noted: { IsComplete fresh (found.mentions ∷ []) },
 }
 
 impl Earlier<'_> {
@@ -49,19 +50,19 @@ impl Earlier<'_> {
 impl Walk {
     /// Nothing is found yet; the mentions before weigh this much.
     pub fn new(alloc: Global, total: u64) -> Walk
-        ensures found { result.found ≡ [] }
+        ensures found { result.found.mentions ≡ [] }
         ensures total { result.total ≡ total }
     {
         Walk {
-            found: List::new(alloc),
+            found: Hashed::new(alloc),
             fresh: Known::new(alloc),
             total,
         }
     }
 
     /// What was found.
-    pub fn into_found(self) -> List<Mention>
-        ensures { result ≡ self.found }
+    pub fn into_found(self) -> Hashed
+        ensures { result.mentions ≡ self.found.mentions }
     {
         self.found
     }
@@ -69,26 +70,26 @@ impl Walk {
     /// Whether the candidate's mention, which has this hash, was found in this round.
     fn has(&self, hash: u64, candidate: Candidate) -> bool
         requires { hash ≡ mention_hash (mention_of candidate) }
-        ensures { result ≡ is_among self.now.found (mention_of candidate) }
+        ensures { result ≡ is_among self.now.found.mentions (mention_of candidate) }
     {
         self.fresh
-            .holds(slice::from_ref(&self.found), hash, candidate)
+            .holds(slice::from_ref(&self.found.mentions), hash, candidate)
     }
 
     /// Adds a mention that was not found before, and has this hash.
     fn add(&mut self, alloc: Global, hash: u64, mention: Mention) -> Result<(), NoMemory>
-        requires few { length self.old.found < 2 ^ 32 }
+        requires few { length self.old.found.mentions < 2 ^ 32 }
         requires hash { hash ≡ mention_hash mention }
-        ensures ok { OnOk result (self.new.found ≡ self.old.found ++ mention ∷ []) }
-        ensures err { OnErr result (self.new.found ≡ self.old.found) }
+        ensures ok { OnOk result (self.new.found.mentions ≡ self.old.found.mentions ++ mention ∷ []) }
+        ensures err { OnErr result (self.new.found.mentions ≡ self.old.found.mentions) }
         ensures total { self.new.total ≡ self.old.total }
     {
         let place = Place {
             round: 0,
-            index: self.found.len() as u32,
+            index: self.found.mentions.len() as u32,
         };
         self.fresh.note(alloc, hash, place)?;
-        self.found.push(mention)
+        self.found.push(hash, mention)
     }
 
     /// Meets a candidate: its mention is made and added where it is new. Gives the weight that is
@@ -99,11 +100,11 @@ impl Walk {
         earlier: &Earlier,
         candidate: Candidate,
     ) -> Result<Option<u64>, NoMemory>
-        requires { IsWeighed (joined earlier.now.rounds.now) self.old.found self.old.total }
-        ensures weighed { IsWeighed (joined earlier.now.rounds.now) self.new.found self.new.total }
+        requires { IsWeighed (joined earlier.now.rounds.now) self.old.found.mentions self.old.total }
+        ensures weighed { IsWeighed (joined earlier.now.rounds.now) self.new.found.mentions self.new.total }
         ensures met { IfOk result (λ heavy.
             LeadsTo (joined earlier.now.rounds.now) (one (mention_of candidate) ∷ [])
-            self.old.found heavy self.new.found) }
+            self.old.found.mentions heavy self.new.found.mentions) }
     {
         let hash = hash_candidate(candidate);
         if earlier.holds(hash, candidate) || self.has(hash, candidate) {
@@ -125,11 +126,11 @@ impl Walk {
         earlier: &Earlier,
         candidates: &[Candidate],
     ) -> Result<Option<u64>, NoMemory>
-        requires { IsWeighed (joined earlier.now.rounds.now) self.old.found self.old.total }
-        ensures weighed { IsWeighed (joined earlier.now.rounds.now) self.new.found self.new.total }
+        requires { IsWeighed (joined earlier.now.rounds.now) self.old.found.mentions self.old.total }
+        ensures weighed { IsWeighed (joined earlier.now.rounds.now) self.new.found.mentions self.new.total }
         ensures met { IfOk result (λ heavy.
             LeadsTo (joined earlier.now.rounds.now) (candidate_items candidates.now)
-            self.old.found heavy self.new.found) }
+            self.old.found.mentions heavy self.new.found.mentions) }
     {
         for candidate in candidates {
             if let Some(total) = self.meet(alloc, earlier, *candidate)? {

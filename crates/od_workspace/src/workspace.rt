@@ -10,6 +10,7 @@ use od_document::conllu::ConlluFault;
 use od_document::doc::Doc;
 use od_extraction::mention::Mention;
 use od_pattern::grammar::Head;
+use od_rounds::hashed::Hashed;
 use od_session::object::{ALL_BYTES, ALL_DOCUMENTS, SESSION_ROUNDS, SESSIONS};
 use od_text::list::List;
 use od_text::text::{Bytes, NoMemory, Text};
@@ -192,7 +193,7 @@ impl Workspace {
         match session.next(alloc, &self.docs)? {
             Err(refusal) => Ok(Answer::refused(refusal)),
             Ok(added) => Ok(Answer {
-                reply: session.stepped(added.get()),
+                reply: session.stepped(added.mentions.get()),
                 change: Change::Round { place, added },
             }),
         }
@@ -248,13 +249,8 @@ impl Workspace {
     }
 
     /// One round more of the session at the place.
-    fn add_round(
-        &mut self,
-        alloc: Global,
-        place: usize,
-        added: List<Mention>,
-    ) -> Result<(), NoMemory>
-        requires { SessionAt self.old.sessions place (IsNextRound self.old.docs added) }
+    fn add_round(&mut self, alloc: Global, place: usize, added: Hashed) -> Result<(), NoMemory>
+        requires { SessionAt self.old.sessions place (IsNextRound self.old.docs added.mentions) }
         ensures ok { OnOk result (self.new ≡ changed self.old (Change.Round place added)) }
         ensures err { OnErr result (self.new ≡ self.old) }
     {

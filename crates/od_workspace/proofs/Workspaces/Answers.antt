@@ -10,6 +10,7 @@ use Rattle.od_command.specs.declared.history.Reply.{Reply}
 use Rattle.od_command.specs.declared.history.Reply.TheVariants.{Added, Resumed, Released, Refused}
 use Rattle.od_command.specs.declared.history.Refusal.{Refusal}
 use Rattle.od_command.specs.declared.history.Refusal.TheVariants.{Duplicate, Full, NoGrammar}
+use Rattle.od_rounds.specs.declared.hashed.Hashed.{Hashed}
 use Rattle.od_session.specs.declared.object.SessionState.{SessionState}
 use Rattle.od_session.specs.declared.object.OneThread.{OneThread}
 use Rattle.od_document.specs.Reading.{Reads}
@@ -68,11 +69,11 @@ module _ (heads : List Head) (o : OneThread) (caller : ℕ) (name : List ℕ) wh
       }
 
       -- one whose next round finds these mentions
-      pub answer-stepped : (added : List Mention) (reply : Reply) → phase_with s s.rounds ≡ Going → round_at o.docs s ≡ Found added → reply ≡ reply_round s (Found added)
+      pub answer-stepped : (added : Hashed) (reply : Reply) → phase_with s s.rounds ≡ Going → round_at o.docs s ≡ Found added.mentions → reply ≡ reply_round s (Found added.mentions)
           → IsAnswer heads o caller (Step name) (record { reply = reply; change = Round place added })
       answer-stepped added reply going finds is = rw is (record {
         replies = sym (ap (reply_step o) holds ∙ ap (reply_phase o s) going ∙ ap (reply_round s) finds);
         effect = ap (λ (l : List SessionState). record { docs = o.docs; sessions = l })
-            (changes (stepped o.docs) ∙ changed_at-same (stepped o.docs) (λ t. record t { rounds = t.rounds ++ added ∷ [] }) o.sessions place s at (ap (λ r. record s { rounds = s.rounds ++ found_of r ∷ [] }) finds));
+            (changes (stepped o.docs) ∙ changed_at-same (stepped o.docs) (λ t. record t { rounds = t.rounds ++ added.mentions ∷ [] }) o.sessions place s at (ap (λ r. record s { rounds = s.rounds ++ found_of r ∷ [] }) finds));
         fits = (s, at, (going, finds));
       })

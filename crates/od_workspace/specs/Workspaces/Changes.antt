@@ -31,7 +31,7 @@ abbrev pub changed : OneThread → Change → OneThread
 changed o Nothing = o
 changed o (Document doc) = record o { docs = o.docs ++ doc ∷ [] }
 changed o (Opening session) = record o { sessions = o.sessions ++ session ∷ [] }
-changed o (Round place added) = record o { sessions = changed_at place (λ s. record s { rounds = s.rounds ++ added ∷ [] }) o.sessions }
+changed o (Round place added) = record o { sessions = changed_at place (λ s. record s { rounds = s.rounds ++ added.mentions ∷ [] }) o.sessions }
 changed o (Holder place holder) = record o { sessions = changed_at place (λ s. record s { holder = holder }) o.sessions }
 
 -- a session stands at the place, of which P holds
@@ -47,7 +47,7 @@ abbrev pub Fits : OneThread → Change → Type 0
 Fits o Nothing = Unit {0}
 Fits o (Document doc) = (has_doc o doc.name ≡ false) × (is_full o doc.size ≡ false)
 Fits o (Opening session) = (has_session o session.name ≡ false) × (length o.sessions < SESSIONS)
-Fits o (Round place added) = SessionAt o.sessions place (IsNextRound o.docs added)
+Fits o (Round place added) = SessionAt o.sessions place (IsNextRound o.docs added.mentions)
 Fits o (Holder place holder) = SessionAt o.sessions place (λ s. Unit {0})
 
 -- the object answers the caller's command so, and the change is its effect

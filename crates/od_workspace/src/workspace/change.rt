@@ -4,8 +4,7 @@ ghost use Rattle.std.specs.Prelude.{◌≡◌};
 use super::session::Session;
 use od_command::history::{Refusal, Reply};
 use od_document::doc::Doc;
-use od_extraction::mention::Mention;
-use od_text::list::List;
+use od_rounds::hashed::Hashed;
 
 /// A change of the documents and sessions.
 #[derive(Drop)]
@@ -16,7 +15,7 @@ pub enum Change {
     /// One session more.
     Opening(Session),
     /// One round more, which added these mentions, of the session at the place.
-    Round { place: usize, added: List<Mention> },
+    Round { place: usize, added: Hashed },
     /// Another holder of the session at the place, or none.
     Holder { place: usize, holder: Option<u32> },
 }

@@ -5,16 +5,19 @@ ghost use Rattle.od_extraction.specs.Joined.{joined};
 ghost use Rattle.od_session.specs.Parts.{IsAccepted, phase_with, round_at};
 ghost use Rattle.od_session.specs.declared.object.TheConstants.{SESSION_ROUNDS};
 ghost use Rattle.od_model.specs.Object.Replies.{held_as, reply_print, reply_round};
+ghost use Rattle.od_extraction.specs.declared.mention.RoundResult.TheVariants as round;
+ghost use Rattle.od_rounds.specs.NextRounds.{given_by};
 ghost use Rattle.od_workspace.specs.Workspaces.Steps.{step_reply};
 
 use od_command::history::{Refusal, Reply};
 use od_document::doc::Doc;
-use od_extraction::mention::{Mention, RoundResult};
+use od_extraction::mention::Mention;
 use od_extraction::phase::Phase;
 use od_pattern::grammar::Head;
 use od_query::query_words;
+use od_rounds::hashed::Hashed;
 use od_rounds::known::Known;
-use od_rounds::round::{next_round, phase_after, phase_of, weigh};
+use od_rounds::round::{NextRound, next_round, phase_after, phase_of, weigh};
 use od_session::object::SessionState;
 use od_text::list::List;
 use od_text::text::{Copied, NoMemory, Text};
@@ -137,13 +140,9 @@ impl Session {
     }
 
     /// The mentions that the next round adds, where the rounds go on and it is not refused.
-    pub fn next(
-        &self,
-        alloc: Global,
-        docs: &[Doc],
-    ) -> Result<Result<List<Mention>, Refusal>, NoMemory>
+    pub fn next(&self, alloc: Global, docs: &[Doc]) -> Result<Result<Hashed, Refusal>, NoMemory>
         ensures { IfOk result (λ next. MatchResult next
-            (λ added. (phase_with self.now self.now.rounds ≡ Phase.Going) × (round_at docs.now self.now ≡ RoundResult.Found added))
+            (λ added. (phase_with self.now self.now.rounds ≡ Phase.Going) × (round_at docs.now self.now ≡ round.Found added.mentions))
             (λ refusal. step_reply docs.now self.now ≡ Reply.Refused refusal)) }
     {
         let round = self.round();
@@ -153,25 +152,14 @@ impl Session {
             Phase::Going => {}
         }
         match self.next_round(alloc, docs)? {
-            RoundResult::Crowded {
-                rule,
-                document,
-                sentence,
-                count,
-            } => Ok(Err(Refusal::Crowded {
-                rule,
-                document,
-                sentence,
-                count,
-            })),
-            RoundResult::TooMany { weight } => Ok(Err(Refusal::TooMany { weight })),
-            RoundResult::Found(added) => Ok(Ok(added)),
+            NextRound::TooMany { weight } => Ok(Err(Refusal::TooMany { weight })),
+            NextRound::Found(added) => Ok(Ok(added)),
         }
     }
 
     /// What the next round gives.
-    fn next_round(&self, alloc: Global, docs: &[Doc]) -> Result<RoundResult, NoMemory>
-        ensures { IfOk result (λ r. r ≡ round_at docs.now self.now) }
+    fn next_round(&self, alloc: Global, docs: &[Doc]) -> Result<NextRound, NoMemory>
+        ensures { IfOk result (λ next. given_by next ≡ round_at docs.now self.now) }
     {
         next_round(
             alloc,
@@ -185,8 +173,8 @@ impl Session {
 
     /// The answer to a step whose round added these mentions.
     pub fn stepped(&self, added: &[Mention]) -> Reply
-        requires { (docs : Seq Doc) × (round_at docs self.now ≡ RoundResult.Found added.now) }
-        ensures { result ≡ reply_round self.now (RoundResult.Found added.now) }
+        requires { (docs : Seq Doc) × (round_at docs self.now ≡ round.Found added.now) }
+        ensures { result ≡ reply_round self.now (round.Found added.now) }
     {
         Reply::Stepped {
             round: self.state.rounds.len() as u32 + 1,
@@ -196,19 +184,22 @@ impl Session {
     }
 
     /// Adds what the next round found. Where memory is refused, the session stays as it was.
-    pub fn add_round(&mut self, alloc: Global, added: List<Mention>) -> Result<(), NoMemory>
-        requires found { (docs : Seq Doc) × (round_at docs self.old ≡ RoundResult.Found added) }
+    pub fn add_round(&mut self, alloc: Global, added: Hashed) -> Result<(), NoMemory>
+        requires found { (docs : Seq Doc) × (round_at docs self.old ≡ round.Found added.mentions) }
         requires going { phase_with self.old self.old.rounds ≡ Phase.Going }
-        ensures ok { OnOk result (self.new ≡ record self.old { rounds = self.old.rounds ++ added ∷ [] }) }
+        ensures ok { OnOk result (self.new ≡ record self.old { rounds = self.old.rounds ++ added.mentions ∷ [] }) }
         ensures err { OnErr result (self.new ≡ self.old) }
     {
-        let weight = self.weight + weigh(added.get());
-        let count = added.len() as u32;
-        let mentions = self.mentions + count;
-        self.known
-            .extend(alloc, self.state.rounds.get(), added.get())?;
-        self.state.rounds.push(added)?;
-        self.mentions = mentions;
+        let weight = self.weight + weigh(added.mentions.get());
+        let count = added.mentions.len() as u32;
+        let total = self.mentions + count;
+        self.known.extend(alloc, self.state.rounds.get(), &added)?;
+        let Hashed {
+            mentions,
+            hashes: _,
+        } = added;
+        self.state.rounds.push(mentions)?;
+        self.mentions = total;
         self.weight = weight;
         Ok(())
     }

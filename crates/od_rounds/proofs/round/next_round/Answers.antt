@@ -10,12 +10,12 @@ visit_documents-requires-clause-some c = words_some c.args.state.now.text c.args
 
 pub returns-in-Some : goal.returns-in-Some
 returns-in-Some c =
-    next_is c.args.docs.now (take c.min-count.result c.args.docs.now) c.args.state.now c.args.words.now c.get.result.now c.new-walk.result.found _ c.requires.query c.requires.words_are c.requires.distinct
+    next_is c.args.docs.now (take c.min-count.result c.args.docs.now) c.args.state.now c.args.words.now c.get.result.now c.new-walk.result.found.mentions _ c.requires.query c.requires.words_are c.requires.distinct
     c.get.ensures c.new-walk.ensures.found (take_up_to c.args.docs.now c.args.state.now.documents c.min-count.result c.min-count.ensures)
-    (c.in_ok-weight.ensures.met ∙ ap (λ heavy. result_of heavy c.visit_documents.new.walk.found) c.in-Some.is)
+    (c.in_ok-weight.ensures.met ∙ ap (λ heavy. result_of heavy c.visit_documents.new.walk.found.mentions) c.in-Some.is)
 
 pub returns-in-None : goal.returns-in-None
 returns-in-None c =
-    next_is c.args.docs.now (take c.min-count.result c.args.docs.now) c.args.state.now c.args.words.now c.get.result.now c.new-walk.result.found _ c.requires.query c.requires.words_are c.requires.distinct
+    next_is c.args.docs.now (take c.min-count.result c.args.docs.now) c.args.state.now c.args.words.now c.get.result.now c.new-walk.result.found.mentions _ c.requires.query c.requires.words_are c.requires.distinct
     c.get.ensures c.new-walk.ensures.found (take_up_to c.args.docs.now c.args.state.now.documents c.min-count.result c.min-count.ensures)
-    (c.in_ok-weight.ensures.met ∙ ap (λ heavy. result_of heavy c.visit_documents.new.walk.found) c.in-None.is ∙ ap Found (sym c.into_found.ensures))
+    (c.in_ok-weight.ensures.met ∙ ap (λ heavy. result_of heavy c.visit_documents.new.walk.found.mentions) c.in-None.is ∙ ap Found (sym c.into_found.ensures))

@@ -10,6 +10,6 @@ use Rattle.od_rounds.proofs.round.visit_document.Given as goal
 
 abbrev pub invariant-loop-number : goal.invariant-loop-number
 invariant-loop-number l =
-    IsWeighed (joined l.earlier.rounds.now) l.walk.found l.walk.total
-    × (fold (walked (joined l.earlier.rounds.now)) (Found l.walk.found) (left_from (sentence_items l.words (joined l.earlier.rounds.now) l.document) l.number l.doc.sentences)
-    ≡ fold (walked (joined l.earlier.rounds.now)) (Found l.initial.walk.found) (document_items l.words (joined l.earlier.rounds.now) (l.document, l.doc)))
+    IsWeighed (joined l.earlier.rounds.now) l.walk.found.mentions l.walk.total
+    × (fold (walked (joined l.earlier.rounds.now)) (Found l.walk.found.mentions) (left_from (sentence_items l.words (joined l.earlier.rounds.now) l.document) l.number l.doc.sentences)
+    ≡ fold (walked (joined l.earlier.rounds.now)) (Found l.initial.walk.found.mentions) (document_items l.words (joined l.earlier.rounds.now) (l.document, l.doc)))

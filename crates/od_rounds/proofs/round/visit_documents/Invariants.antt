@@ -10,6 +10,6 @@ use Rattle.od_rounds.proofs.round.visit_documents.Given as goal
 
 abbrev pub invariant-loop-document : goal.invariant-loop-document
 invariant-loop-document l =
-    IsWeighed (joined l.earlier.rounds.now) l.walk.found l.walk.total
-    × (fold (walked (joined l.earlier.rounds.now)) (Found l.walk.found) (left_from (document_items l.words (joined l.earlier.rounds.now)) l.document l.docs)
-    ≡ fold (walked (joined l.earlier.rounds.now)) (Found l.initial.walk.found) (all_items l.words (joined l.earlier.rounds.now) l.docs))
+    IsWeighed (joined l.earlier.rounds.now) l.walk.found.mentions l.walk.total
+    × (fold (walked (joined l.earlier.rounds.now)) (Found l.walk.found.mentions) (left_from (document_items l.words (joined l.earlier.rounds.now)) l.document l.docs)
+    ≡ fold (walked (joined l.earlier.rounds.now)) (Found l.initial.walk.found.mentions) (all_items l.words (joined l.earlier.rounds.now) l.docs))

@@ -8,5 +8,5 @@ use Rattle.od_rounds.proofs.walk.Walk.meet.Goals as goal
 
 pub add-requires : goal.add-requires
 add-requires c =
-    let few : length c.args.self.now.found ≤ most_weight = weighed_few (joined c.args.earlier.now.rounds.now) c.args.self.now.found c.args.self.now.total c.requires in
+    let few : length c.args.self.now.found.mentions ≤ most_weight = weighed_few (joined c.args.earlier.now.rounds.now) c.args.self.now.found.mentions c.args.self.now.total c.requires in
     record { few = omega arith; hash = c.hash_candidate-hash.ensures ∙ ap mention_hash (sym c.in_ok-make.ensures) }

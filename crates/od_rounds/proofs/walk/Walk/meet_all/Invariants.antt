@@ -9,6 +9,6 @@ use Rattle.od_rounds.proofs.walk.Walk.meet_all.Given as goal
 
 abbrev pub invariant-loop-candidate : goal.invariant-loop-candidate
 invariant-loop-candidate l =
-    IsWeighed (joined l.earlier.rounds.now) l.self.found l.self.total
-    × (fold (walked (joined l.earlier.rounds.now)) (Found l.self.found) (candidate_items (drop l.candidate-index l.candidates))
-    ≡ fold (walked (joined l.earlier.rounds.now)) (Found l.initial.self.found) (candidate_items l.candidates))
+    IsWeighed (joined l.earlier.rounds.now) l.self.found.mentions l.self.total
+    × (fold (walked (joined l.earlier.rounds.now)) (Found l.self.found.mentions) (candidate_items (drop l.candidate-index l.candidates))
+    ≡ fold (walked (joined l.earlier.rounds.now)) (Found l.initial.self.found.mentions) (candidate_items l.candidates))
