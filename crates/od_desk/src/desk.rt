@@ -108,7 +108,12 @@ impl<W: Sink> Desk<W> {
     /// A desk with no document and no session.
     pub fn new(alloc: Global, heads: List<Head>, sink: W) -> Desk<W>
         requires accepted { Each IsAccepted heads }
-        ensures { result ≡ opened_desk (record { heads = heads; start = nothing; sink = taken (W.written sink) (W.faults sink) }) }
+        ensures { result ≡ opened_desk (record {
+          heads = heads;
+          start = nothing;
+          sink = taken
+              (W.written sink) (W.faults sink);
+        }) }
     {
         let workspace = Workspace::new(alloc);
         let start = Snapshot::of(&workspace);
@@ -139,8 +144,11 @@ impl<W: Sink> Desk<W> {
         requires call { call ≡ length (mine caller self.old.history) + 1 }
         ensures desk { IsDesk self.new }
         ensures origin { self.new.origin ≡ self.old.origin }
-        ensures entry { IfOk result (λ goes. (e : Entry) × OneMore caller command self.old.history self.new.history e × (IsTrue goes ↔ GoesOn e.reply)) }
-        ensures climbs { IfOk result (λ goes. (name : Seq ℕ) → command ≡ Command.Step name → IsTrue goes → Climbs name self.old.object self.new.object) }
+        ensures entry { IfOk result (λ goes. (e : Entry)
+            × OneMore caller command self.old.history self.new.history e
+            × (IsTrue goes ↔ GoesOn e.reply)) }
+        ensures climbs { IfOk result (λ goes. (name : Seq ℕ) → command ≡ Command.Step name
+            → IsTrue goes → Climbs name self.old.object self.new.object) }
         ensures part { OnErr result (AtMostOne caller command self.old.history self.new.history) }
         ensures kept { IsErrOf result Stop.NoMemory → self.new.history ≡ self.old.history }
         ensures cut { self.new.cut ≡ is_cut result }

@@ -11,7 +11,8 @@ use std::alloc::Global;
 
 /// The lines of the mentions of a session, if it is there.
 fn shown_lines(alloc: Global, workspace: &Workspace, name: &Text) -> Result<Bytes, NoMemory>
-    ensures { IfOk result (λ lines. lines ≡ lines_of_session workspace.now.docs name.now (session_of name.now workspace.now.sessions)) }
+    ensures { IfOk result (λ lines. lines ≡ lines_of_session workspace.now.docs name.now
+        (session_of name.now workspace.now.sessions)) }
 {
     match workspace.rounds_of(name) {
         Some(rounds) => session_lines(alloc, name, workspace.docs(), rounds),

@@ -36,8 +36,10 @@ fn visit_document(
     doc: &Doc,
 ) -> Result<Option<u64>, NoMemory>
     requires some { 0 < length words.now }
-    requires weighed { IsWeighed (joined earlier.now.rounds.now) walk.old.found.mentions walk.old.total }
-    ensures weighed { IsWeighed (joined earlier.now.rounds.now) walk.new.found.mentions walk.new.total }
+    requires weighed { IsWeighed
+        (joined earlier.now.rounds.now) walk.old.found.mentions walk.old.total }
+    ensures weighed { IsWeighed
+        (joined earlier.now.rounds.now) walk.new.found.mentions walk.new.total }
     ensures met { IfOk result (λ heavy.
         LeadsTo (joined earlier.now.rounds.now)
         (document_items words.now (joined earlier.now.rounds.now) (document, doc.now))
@@ -62,7 +64,8 @@ fn visit_documents(
 ) -> Result<Option<u64>, NoMemory>
     requires some { 0 < length words.now }
     requires few { length docs.now < 2 ^ 32 }
-    requires weighed { IsWeighed (joined earlier.now.rounds.now) walk.old.found.mentions walk.old.total }
+    requires weighed { IsWeighed
+        (joined earlier.now.rounds.now) walk.old.found.mentions walk.old.total }
     ensures met { IfOk result (λ heavy.
         LeadsTo (joined earlier.now.rounds.now)
         (all_items words.now (joined earlier.now.rounds.now) docs.now)
@@ -95,7 +98,8 @@ pub fn next_round(
     known: &Known,
     total: u64,
 ) -> Result<NextRound, NoMemory>
-    requires query { grammar_of state.now.kind state.now.text ≡ Some (query_grammar state.now.text) }
+    requires query { grammar_of state.now.kind state.now.text ≡ Some
+        (query_grammar state.now.text) }
     requires words_are { words.now ≡ map fold_text (words_of state.now.text) }
     requires noted { IsComplete known.now state.now.rounds }
     requires distinct { distinct (joined state.now.rounds) ≡ joined state.now.rounds }

@@ -80,7 +80,8 @@ impl Walk {
     fn add(&mut self, alloc: Global, hash: u64, mention: Mention) -> Result<(), NoMemory>
         requires few { length self.old.found.mentions < 2 ^ 32 }
         requires hash { hash ≡ mention_hash mention }
-        ensures ok { OnOk result (self.new.found.mentions ≡ self.old.found.mentions ++ mention ∷ []) }
+        ensures ok { OnOk result (self.new.found.mentions
+            ≡ self.old.found.mentions ++ mention ∷ []) }
         ensures err { OnErr result (self.new.found.mentions ≡ self.old.found.mentions) }
         ensures total { self.new.total ≡ self.old.total }
     {
@@ -100,8 +101,10 @@ impl Walk {
         earlier: &Earlier,
         candidate: Candidate,
     ) -> Result<Option<u64>, NoMemory>
-        requires { IsWeighed (joined earlier.now.rounds.now) self.old.found.mentions self.old.total }
-        ensures weighed { IsWeighed (joined earlier.now.rounds.now) self.new.found.mentions self.new.total }
+        requires { IsWeighed
+            (joined earlier.now.rounds.now) self.old.found.mentions self.old.total }
+        ensures weighed { IsWeighed
+            (joined earlier.now.rounds.now) self.new.found.mentions self.new.total }
         ensures met { IfOk result (λ heavy.
             LeadsTo (joined earlier.now.rounds.now) (one (mention_of candidate) ∷ [])
             self.old.found.mentions heavy self.new.found.mentions) }
@@ -126,8 +129,10 @@ impl Walk {
         earlier: &Earlier,
         candidates: &[Candidate],
     ) -> Result<Option<u64>, NoMemory>
-        requires { IsWeighed (joined earlier.now.rounds.now) self.old.found.mentions self.old.total }
-        ensures weighed { IsWeighed (joined earlier.now.rounds.now) self.new.found.mentions self.new.total }
+        requires { IsWeighed
+            (joined earlier.now.rounds.now) self.old.found.mentions self.old.total }
+        ensures weighed { IsWeighed
+            (joined earlier.now.rounds.now) self.new.found.mentions self.new.total }
         ensures met { IfOk result (λ heavy.
             LeadsTo (joined earlier.now.rounds.now) (candidate_items candidates.now)
             self.old.found.mentions heavy self.new.found.mentions) }

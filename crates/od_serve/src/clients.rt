@@ -50,7 +50,8 @@ pub fn run_clients<W: Sink>(
     requires short { Each (λ (orders : Seq SpecOrder). length orders ≤ CLIENT_ORDERS) clients }
     ensures origin { desk.new.origin ≡ desk.old.origin }
     ensures callers { OfClients clients desk.new.history }
-    ensures follows { IfOk result (λ whole. IsTrue whole → EachClient Follows clients desk.new.history) }
+    ensures follows { IfOk result (λ whole. IsTrue whole
+        → EachClient Follows clients desk.new.history) }
     ensures begins { EachClient Begins clients desk.new.history }
     ensures cut { desk.new.cut ≡ is_err result }
 {

@@ -91,10 +91,12 @@ fn run_status(followed: Result<bool, Failed>, history: &[Entry]) -> Status
 fn run_script<W: Sink>(alloc: Global, script: Script, sink: W) -> Run<W>
     requires runnable { IsRunnable script }
     requires accepted { first_refused script.heads ≡ None }
-    ensures outcome { (left : Option (Seq ℕ)) → IsScriptOf left script → RunOutcome result.status result.history.items
+    ensures outcome { (left : Option (Seq ℕ)) → IsScriptOf left script
+        → RunOutcome result.status result.history.items
         (record { left = left; before = W.written sink; now = W.written result.sink }) }
     ensures ran { Ran result.status }
-    ensures write { result.status ≡ Status.WriteFault → Rose (W.faults sink) (W.faults result.sink) }
+    ensures write { result.status ≡ Status.WriteFault → Rose (W.faults sink)
+        (W.faults result.sink) }
     ensures later { W.faults sink ≤ W.faults result.sink }
 {
     let Script { heads, clients } = script;
@@ -110,7 +112,8 @@ fn run_script<W: Sink>(alloc: Global, script: Script, sink: W) -> Run<W>
 
 /// The name of the first grammar that is not accepted, if there is one.
 fn refused_name(alloc: Global, heads: &[Head]) -> Result<Option<Text>, NoMemory>
-    ensures { IfOk result (λ name. name ≡ option_map (λ (head : SpecHead). head.name) (first_refused heads.now)) }
+    ensures { IfOk result (λ name. name ≡ option_map (λ (head : SpecHead). head.name)
+        (first_refused heads.now)) }
 {
     match first_refused(heads) {
         None => Ok(None),
@@ -121,7 +124,8 @@ fn refused_name(alloc: Global, heads: &[Head]) -> Result<Option<Text>, NoMemory>
 /// The script, where all of its grammars are accepted.
 fn accept(alloc: Global, script: Script) -> Result<Script, Status>
     ensures accepted { IfOk result (λ same. (same ≡ script) × (first_refused script.heads ≡ None)) }
-    ensures refused { (left : Option (Seq ℕ)) → IsScriptOf left script → IfErr result (NeverBegan left) }
+    ensures refused { (left : Option (Seq ℕ)) → IsScriptOf left script
+        → IfErr result (NeverBegan left) }
     ensures not_read { IfErr result (λ status. status ≡ Status.ReadFault → ⊥) }
 {
     match refused_name(alloc, script.heads.get()) {
@@ -138,7 +142,8 @@ fn read_source<S: Source>(alloc: Global, source: &mut S) -> Result<Script, Statu
     ensures accepted { IfOk result (λ script. first_refused script.heads ≡ None) }
     ensures end { IfOk result (λ _. IsAtEnd (S.left source.new)) }
     ensures fault { IfErr result (NeverBegan (S.left source.old)) }
-    ensures read { IfErr result (λ status. status ≡ Status.ReadFault → Rose (S.faults source.old) (S.faults source.new)) }
+    ensures read { IfErr result (λ status. status ≡ Status.ReadFault
+        → Rose (S.faults source.old) (S.faults source.new)) }
     ensures later { S.faults source.old ≤ S.faults source.new }
 {
     let bytes = match read_all(alloc, source, SCRIPT_BYTES) {
@@ -160,9 +165,12 @@ fn serve<S: Source, W: Sink>(alloc: Global, source: &mut S, sink: W) -> Run<W>
         (record { left = S.left source.old; before = W.written sink; now = W.written result.sink }) }
     ensures not_usage { result.status ≡ Status.Usage → ⊥ }
     ensures end { Answered result.status → IsAtEnd (S.left source.new) }
-    ensures read { result.status ≡ Status.ReadFault → Rose (S.faults source.old) (S.faults source.new) }
-    ensures write { result.status ≡ Status.WriteFault → Rose (W.faults sink) (W.faults result.sink) }
-    ensures complete { (Rose (S.faults source.old) (S.faults source.new) → ⊥) → (Rose (W.faults sink) (W.faults result.sink) → ⊥)
+    ensures read { result.status ≡ Status.ReadFault → Rose (S.faults source.old)
+        (S.faults source.new) }
+    ensures write { result.status ≡ Status.WriteFault → Rose (W.faults sink)
+        (W.faults result.sink) }
+    ensures complete { (Rose (S.faults source.old) (S.faults source.new) → ⊥)
+        → (Rose (W.faults sink) (W.faults result.sink) → ⊥)
         → CanEndSo (S.left source.old) result.status }
     ensures source_later { S.faults source.old ≤ S.faults source.new }
     ensures sink_later { W.faults sink ≤ W.faults result.sink }

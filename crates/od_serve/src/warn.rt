@@ -25,7 +25,8 @@ pub fn exit_status(status: &Status) -> u8
 
 /// Writes three pieces one after another, up to a write that fails.
 fn write_pieces<E: Sink>(diag: &mut E, first: &[u8], second: &[u8], third: &[u8])
-    ensures line { AppendsUpToFault (E.faults diag.old) (E.faults diag.new) (E.written diag.old) (E.written diag.new)
+    ensures line { AppendsUpToFault (E.faults diag.old) (E.faults diag.new) (E.written diag.old)
+        (E.written diag.new)
         (first.now ++ second.now ++ third.now) }
     ensures later { E.faults diag.old ≤ E.faults diag.new }
 {
@@ -56,7 +57,8 @@ fn line_of(status: &Status) -> (&str, &str, &str)
 /// Writes the line of a status from 2 on; nothing is written where every command was answered.
 pub fn warn<E: Sink>(diag: &mut E, status: &Status)
     ensures quiet { Answered status.now → diag.new ≡ diag.old }
-    ensures line { AppendsUpToFault (E.faults diag.old) (E.faults diag.new) (E.written diag.old) (E.written diag.new)
+    ensures line { AppendsUpToFault (E.faults diag.old) (E.faults diag.new) (E.written diag.old)
+        (E.written diag.new)
         (diagnostic status.now) }
     ensures later { E.faults diag.old ≤ E.faults diag.new }
 {

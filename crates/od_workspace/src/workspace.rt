@@ -175,7 +175,8 @@ impl Workspace {
 
     /// The lists of a session's rounds.
     pub fn rounds_of(&self, name: &Text) -> Option<&[List<Mention>]>
-        ensures { option_map (λ rounds. rounds.now) result ≡ option_map (λ s. s.rounds) (session_of name.now self.now.sessions) }
+        ensures { option_map (λ rounds. rounds.now) result ≡ option_map (λ s. s.rounds)
+            (session_of name.now self.now.sessions) }
     {
         let i = self.place(name)?;
         Some(self.sessions[i].state().rounds.get())
@@ -183,7 +184,8 @@ impl Workspace {
 
     /// One round more of the session, where the caller holds it and its rounds go on.
     fn answer_step(&self, alloc: Global, caller: u32, name: &Text) -> Result<Answer, NoMemory>
-        ensures { IfOk result (λ answer. (heads : Seq Head) → IsAnswer heads self.now caller (Command.Step name.now) answer) }
+        ensures { IfOk result (λ answer. (heads : Seq Head)
+            → IsAnswer heads self.now caller (Command.Step name.now) answer) }
     {
         let place = match self.held(caller, name) {
             Ok(place) => place,
@@ -224,7 +226,8 @@ impl Workspace {
 
     /// What the session has, where the caller holds it.
     fn answer_print(&self, caller: u32, name: &Text) -> Answer
-        ensures { (heads : Seq Head) → IsAnswer heads self.now caller (Command.Print name.now) result }
+        ensures { (heads : Seq Head) → IsAnswer heads self.now caller
+            (Command.Print name.now) result }
     {
         match self.held(caller, name) {
             Ok(place) => Answer::without_change(self.sessions[place].printed()),
@@ -234,7 +237,8 @@ impl Workspace {
 
     /// Nobody holds the session afterwards, where the caller held it.
     fn answer_release(&self, caller: u32, name: &Text) -> Answer
-        ensures { (heads : Seq Head) → IsAnswer heads self.now caller (Command.Release name.now) result }
+        ensures { (heads : Seq Head) → IsAnswer heads self.now caller
+            (Command.Release name.now) result }
     {
         match self.held(caller, name) {
             Ok(place) => Answer {
@@ -272,7 +276,8 @@ impl Workspace {
     fn add_session(&mut self, alloc: Global, session: Session) -> Result<(), NoMemory>
         requires free { has_session self.old session.name ≡ false }
         requires room { length self.old.sessions < SESSIONS }
-        ensures ok { OnOk result (self.new ≡ record self.old { sessions = self.old.sessions ++ session ∷ [] }) }
+        ensures ok { OnOk result
+            (self.new ≡ record self.old { sessions = self.old.sessions ++ session ∷ [] }) }
         ensures err { OnErr result (self.new ≡ self.old) }
     {
         self.sessions.reserve(1)?;
@@ -307,7 +312,8 @@ impl Workspace {
         limit: u32,
     ) -> Result<Answer, NoMemory>
         requires { Each IsAccepted heads.now }
-        ensures { IfOk result (IsAnswer heads.now self.now caller (Command.OpenSession name.now grammar.now limit)) }
+        ensures { IfOk result (IsAnswer heads.now self.now caller
+            (Command.OpenSession name.now grammar.now limit)) }
     {
         let Some(head) = head_of(heads, grammar) else {
             return Ok(Answer::refused(Refusal::NoGrammar));
@@ -334,8 +340,10 @@ impl Workspace {
 
     /// The document that was read, or its first fault.
     fn answer_read(&self, name: &Text, body: &Bytes, read: Result<Doc, ConlluFault>) -> Answer
-        requires { MatchResult read (λ doc. Reads name.now body.now doc) (λ fault. doc_fault body.now ≡ Some fault) }
-        ensures { (heads : Seq Head) (caller : ℕ) → IsAnswer heads self.now caller (Command.AddDoc name.now body.now) result }
+        requires { MatchResult read (λ doc. Reads name.now body.now doc)
+            (λ fault. doc_fault body.now ≡ Some fault) }
+        ensures { (heads : Seq Head) (caller : ℕ) → IsAnswer heads self.now caller
+            (Command.AddDoc name.now body.now) result }
     {
         let doc = match read {
             Ok(doc) => doc,
@@ -362,7 +370,8 @@ impl Workspace {
 
     /// The document that the bytes are, which is committed afterwards.
     fn answer_doc(&self, alloc: Global, name: &Text, body: &Bytes) -> Result<Answer, NoMemory>
-        ensures { IfOk result (λ answer. (heads : Seq Head) (caller : ℕ) → IsAnswer heads self.now caller (Command.AddDoc name.now body.now) answer) }
+        ensures { IfOk result (λ answer. (heads : Seq Head) (caller : ℕ)
+            → IsAnswer heads self.now caller (Command.AddDoc name.now body.now) answer) }
     {
         let read = match read_doc(alloc, name.get(), body.get()) {
             Ok(doc) => Ok(doc),
@@ -374,7 +383,8 @@ impl Workspace {
 
     /// All sentences in one segment, or no segment where there is none.
     fn answer_settle(&self, alloc: Global) -> Result<Answer, NoMemory>
-        ensures { IfOk result (λ answer. (heads : Seq Head) (caller : ℕ) → IsAnswer heads self.now caller Command.Settle answer) }
+        ensures { IfOk result (λ answer. (heads : Seq Head) (caller : ℕ)
+            → IsAnswer heads self.now caller Command.Settle answer) }
     {
         let mut sizes = List::new(alloc);
         if self.sentences > 0 {

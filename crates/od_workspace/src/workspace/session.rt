@@ -58,7 +58,9 @@ impl Session {
     ) -> Result<Session, NoMemory>
         requires accepted { IsAccepted head.now }
         requires limited { limit ≤ SESSION_ROUNDS }
-        ensures { IfOk result (λ session. session ≡ record { name = name.now; kind = head.now.kind; text = head.now.text; documents = documents; limit = limit; rounds = []; holder = Some caller }) }
+        ensures { IfOk result
+            (λ session. session
+            ≡ record { name = name.now; kind = head.now.kind; text = head.now.text; documents = documents; limit = limit; rounds = []; holder = Some caller }) }
     {
         let state = SessionState {
             name: name.copy(alloc)?,
@@ -87,7 +89,8 @@ impl Session {
 
     /// Whether the caller holds the session, or why not.
     pub fn held(&self, caller: u32) -> Result<(), Refusal>
-        ensures { MatchResult result (λ _. held_as caller self.now self.now.holder ≡ Ok self.now) (λ refusal. held_as caller self.now self.now.holder ≡ Err refusal) }
+        ensures { MatchResult result (λ _. held_as caller self.now self.now.holder ≡ Ok self.now)
+            (λ refusal. held_as caller self.now self.now.holder ≡ Err refusal) }
     {
         match self.state.holder {
             None => Err(Refusal::NotHeld),
@@ -128,7 +131,9 @@ impl Session {
 
     /// The answer to a resume that was taken.
     pub fn resumed(&self) -> Reply
-        ensures { result ≡ Reply.Resumed self.now.documents self.now.limit (length self.now.rounds) (length (joined self.now.rounds)) (phase_with self.now self.now.rounds) }
+        ensures { result ≡ Reply.Resumed self.now.documents self.now.limit
+            (length self.now.rounds) (length (joined self.now.rounds))
+            (phase_with self.now self.now.rounds) }
     {
         Reply::Resumed {
             documents: self.state.documents,
@@ -187,7 +192,8 @@ impl Session {
     pub fn add_round(&mut self, alloc: Global, added: Hashed) -> Result<(), NoMemory>
         requires found { (docs : Seq Doc) × (round_at docs self.old ≡ round.Found added.mentions) }
         requires going { phase_with self.old self.old.rounds ≡ Phase.Going }
-        ensures ok { OnOk result (self.new ≡ record self.old { rounds = self.old.rounds ++ added.mentions ∷ [] }) }
+        ensures ok { OnOk result
+            (self.new ≡ record self.old { rounds = self.old.rounds ++ added.mentions ∷ [] }) }
         ensures err { OnErr result (self.new ≡ self.old) }
     {
         let weight = self.weight + weigh(added.mentions.get());
