@@ -1,0 +1,6 @@
+//! What a turn at the desk leaves behind: marks, the rows that a store keeps, and where a history goes on from.
+#![tactic(auto)]
+
+pub mod mark;
+pub mod origin;
+pub mod rows;

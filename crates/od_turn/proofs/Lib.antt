@@ -1,0 +1,5 @@
+pub mod Totals
+pub mod Keeps
+pub mod Tells
+pub mod Starts
+pub mod Ends
