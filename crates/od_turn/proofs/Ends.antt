@@ -1,5 +1,5 @@
 -- The pass_count come together, and the last state of the table.
-use Rattle.std.proofs.Common.{◌≡◌, ℕ, ◌<◌, Bool, true, List, [], ◌∷◌, ◌++◌, length, Option, Some, refl, sym, ap, ◌∙◌, subst, arith, append_assoc}
+use Rattle.std.proofs.Common.{All, ◌≡◌, ℕ, ◌<◌, Bool, true, List, [], ◌∷◌, ◌++◌, length, Option, Some, refl, sym, ap, ◌∙◌, subst, arith, append_assoc}
 use mathlib.Core.Option.{Option as Place, some}
 use lib.ListN.{get_elem?}
 use Rattle.atomic_table.specs.Table.{Final, Seen, Me}
@@ -16,6 +16,7 @@ use Rattle.od_turn.specs.declared.view.Stage.TheVariants.{Idle, Waiting, InTurn}
 use Rattle.od_turn.specs.declared.pass.Pass.{Pass}
 use Rattle.od_turn.specs.Rule.{pass_count, Continues, NamesOther, NamesPass, PassFits, StageFits, IsInTurn, IsOrderly, IsLast}
 use Rattle.od_turn.specs.Passes.{pass_view, IsFree, pass_views, AreFree, IsPassOf, BeginsIn}
+use Rattle.od_turn.proofs.Alls.{all_each, each_all}
 use Rattle.od_turn.proofs.Totals.{total_two}
 use Rattle.od_turn.proofs.Keeps.{other_seat, slot_there}
 
@@ -67,10 +68,10 @@ pub shaped : {S : Type 0} (m : Me S SeatView) (ks : List PassView) → m.0 ≡ a
 shaped {S} m ks e h = λ i. ((e ∙ ap (λ (v : SeatView). at_stage v.passes Idle) (sym e)) i, h i)
 
 -- passes that can be used are free
-pub passes_free : (id : TableId) (o : Origin) (ps : List Pass) → Each (IsPassOf id o) ps → AreFree id ps
-passes_free id o ps h = Each-weaker (IsPassOf id o) (λ p. (p.badge.table_id ≡ id) × IsFree p.badge.views) (λ p k. (k.0, k.1)) ps h
+pub passes_free : (id : TableId) (o : Origin) (ps : List Pass) → All (IsPassOf id o) ps → AreFree id ps
+passes_free id o ps h = Each-weaker (IsPassOf id o) (λ p. (p.badge.table_id ≡ id) × IsFree p.badge.views) (λ p k. (k.0, k.1)) ps (all_each (IsPassOf id o) ps h)
 
 -- what was found of the views holds of the passes
-pub passes_begin : (id : TableId) (callers : ℕ) (o : Origin) (marks : List Mark) (ps : List Pass) → Each (IsPassOf id o) ps → Each (PassFits callers o marks) (pass_views ps) → Each (BeginsIn marks) ps
-passes_begin id callers o marks ps h k = Each-both (IsPassOf id o) (λ p. PassFits callers o marks (pass_view p.badge.views)) (BeginsIn marks)
-    (λ p i f. subst (λ (n : ℕ). Continues (NamesOther n) (pass_view p.badge.views).seen marks) i.2 f.2) ps h (Each-from_map (PassFits callers o marks) (λ p. pass_view p.badge.views) ps k)
+pub passes_begin : (id : TableId) (callers : ℕ) (o : Origin) (marks : List Mark) (ps : List Pass) → All (IsPassOf id o) ps → Each (PassFits callers o marks) (pass_views ps) → All (BeginsIn marks) ps
+passes_begin id callers o marks ps h k = each_all (BeginsIn marks) ps (Each-both (IsPassOf id o) (λ p. PassFits callers o marks (pass_view p.badge.views)) (BeginsIn marks)
+    (λ p i f. subst (λ (n : ℕ). Continues (NamesOther n) (pass_view p.badge.views).seen marks) i.2 f.2) ps (all_each (IsPassOf id o) ps h) (Each-from_map (PassFits callers o marks) (λ p. pass_view p.badge.views) ps k))

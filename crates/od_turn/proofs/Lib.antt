@@ -1,3 +1,4 @@
+pub mod Alls
 pub mod Totals
 pub mod Keeps
 pub mod Tells

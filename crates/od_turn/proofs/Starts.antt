@@ -1,5 +1,5 @@
 -- The table as it is made, and the pass_count that are cut from the first seat.
-use Rattle.std.proofs.Common.{◌≡◌, ℕ, zero, suc, ◌+◌, ◌-◌, ◌^◌, ◌<◌, ◌≤◌, false, List, [], ◌∷◌, ◌++◌, map, length, Option, Some, refl, sym, ap, ◌∙◌, subst, arith, append-nil, eqb, eq-eqb, ne_eqb}
+use Rattle.std.proofs.Common.{All, ◌≡◌, ℕ, zero, suc, ◌+◌, ◌-◌, ◌^◌, ◌<◌, ◌≤◌, false, List, [], ◌∷◌, ◌++◌, map, length, Option, Some, refl, sym, ap, ◌∙◌, subst, arith, append-nil, eqb, eq-eqb, ne_eqb}
 use mathlib.Core.Logic.{dite}
 use mathlib.Core.Option.{some, some-injective, some-ne-none}
 use native.Mathlib.Decide.{ℕ_discrete}
@@ -15,8 +15,9 @@ use Rattle.od_turn.specs.declared.view.Stage.TheVariants.{Idle}
 use Rattle.od_turn.specs.declared.pass.Pass.{Pass}
 use Rattle.od_turn.specs.Rule.{total, indicator, is_numbered, PassFits, SeatFits, IsOrderly, new_pass, new_passes, first_view}
 use Rattle.od_turn.specs.Steps.{at_stage, kept_back, issued}
-use Rattle.od_turn.specs.Passes.{pass_view, seen_of, IsNew, AreNew}
+use Rattle.od_turn.specs.Passes.{pass_view, seen_of, IsPassOf, IsNew, AreNew}
 use Rattle.od_turn.proofs.Tells.{pass_stands}
+use Rattle.od_turn.proofs.Alls.{each_all}
 
 at_single : {A : Type 0} (a b : A) (j : ℕ) → get_elem? (a ∷ []) j ≡ some b → a ≡ b
 at_single a b zero e = some-injective a b e
@@ -85,3 +86,11 @@ is_new o base id n m p v ks own views is last number known same =
 
 pub none_left : (o : Origin) (base : List Mark) (n callers : ℕ) → n ≡ callers → new_passes o base (n + 1) ((callers + 1) - (n + 1)) ≡ []
 none_left o base n callers e = ap (new_passes o base (n + 1)) (let z : (callers + 1) - (n + 1) ≡ 0 = omega arith in z)
+
+each_ready : (o : Origin) (base : List Mark) (id : TableId) (n : ℕ) (ps : List Pass) → AreNew o base id n ps → Each (IsPassOf id o) ps
+each_ready o base id n [] h = tt
+each_ready o base id n (p ∷ ps) h = (h.0.0, each_ready o base id (suc n) ps h.1)
+
+-- new passes can be used
+pub new_ready : (o : Origin) (base : List Mark) (id : TableId) (n : ℕ) (ps : List Pass) → AreNew o base id n ps → All (IsPassOf id o) ps
+new_ready o base id n ps h = each_all (IsPassOf id o) ps (each_ready o base id n ps h)

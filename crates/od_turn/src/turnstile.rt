@@ -33,8 +33,7 @@ pub struct Turnstile<V: Counted> {
 }
 
 impl<V: Counted> Turnstile<V> {
-    ghost use Rattle.std.specs.Prelude.{◌<◌, length, [], ◌∷◌, IfOk, IfErr, vec_capacity};
-    ghost use Rattle.od_text.specs.Lists.{Each};
+    ghost use Rattle.std.specs.Prelude.{◌<◌, All, length, [], ◌∷◌, IfOk, IfErr, vec_capacity};
     ghost use Rattle.od_turn.specs.Rule.{NamesOther, Continues, NamesPass, first_view};
     ghost use Rattle.od_turn.specs.Steps.{at_stage};
     ghost use Rattle.od_turn.specs.declared.view.Stage.TheVariants.{Idle};
@@ -53,7 +52,8 @@ impl<V: Counted> Turnstile<V> {
         ensures first { IfOk result (λ r. first_value r.0 ≡ value) }
         ensures callers { IfOk result (λ r. callers_of r.0 ≡ callers) }
         ensures all { IfOk result (λ r. length r.1.items ≡ callers) }
-        ensures passes { IfOk result (λ r. AreNew (V.origin value) (V.marks value) (lock_id r.0) 1 r.1.items) }
+        ensures ready { IfOk result (λ r. All (IsPassAt V.origin r.0) r.1.items) }
+        ensures new { IfOk result (λ r. AreNew (V.origin value) (V.marks value) (lock_id r.0) 1 r.1.items) }
         ensures refused { IfErr result (λ r. r.0 ≡ value) }
     {
         let known = value.count();
@@ -96,7 +96,8 @@ impl<V: Counted> Turnstile<V> {
         requires view { seat.me ≡ (first_view (start_origin V.origin self.now) (start_marks V.marks self.now) callers, []) }
         requires room { (passes.old.items ≡ []) × (callers ≤ vec_capacity passes.old) × (1 ≤ callers) }
         requires known { known ≡ length (start_marks V.marks self.now) }
-        ensures made { AreNew (start_origin V.origin self.now) (start_marks V.marks self.now) (lock_id self.now) 1 passes.new.items }
+        ensures ready { All (IsPassAt V.origin self.now) passes.new.items }
+        ensures new { AreNew (start_origin V.origin self.now) (start_marks V.marks self.now) (lock_id self.now) 1 passes.new.items }
         ensures all { length passes.new.items ≡ callers }
     {
         for number in 1..callers {
@@ -170,10 +171,10 @@ impl<V: Counted> Turnstile<V> {
 
     /// Hands the value back, once all passes are here again.
     pub fn close(self, passes: Vec<Pass>) -> V
-        requires passes { Each (IsPassAt V.origin self) passes.items }
+        requires passes { All (IsPassAt V.origin self) passes.items }
         requires all { length passes.items ≡ callers_of self }
         ensures origin { V.origin result ≡ start_origin V.origin self }
-        ensures seen { Each (BeginsIn (V.marks result)) passes.items }
+        ensures seen { All (BeginsIn (V.marks result)) passes.items }
         ensures named { Continues (NamesPass (callers_of self)) (start_marks V.marks self) (V.marks result) }
     {
         let seat = self.collect(passes);

@@ -7,7 +7,7 @@ use Rattle.od_turn.specs.Rule.{new_pass, new_passes}
 use Rattle.od_turn.specs.Steps.{at_stage, issued, kept_back}
 use Rattle.od_turn.specs.Passes.{AreNew}
 use Rattle.od_turn.proofs.Keeps.{split_allowed}
-use Rattle.od_turn.proofs.Starts.{new_passes-step, new_push, is_new, none_left}
+use Rattle.od_turn.proofs.Starts.{new_ready, new_passes-step, new_push, is_new, none_left}
 use Rattle.od_turn.proofs.turnstile.Turnstile.issue.Goals as goal
 
 pub split_seat-other-requires : goal.split_seat-other-requires
@@ -34,8 +34,8 @@ loop-number-preserved g c =
       room = search rules;
     }
 
-pub returns-clause-made : goal.returns-clause-made
-returns-clause-made g c =
+pub returns-clause-new : goal.returns-clause-new
+returns-clause-new g c =
     let o : Origin = g.V.Counted.origin c.args.self.now.table.shared.key.first.value in
     let base : List Mark = g.V.Counted.marks c.args.self.now.table.shared.key.first.value in
     let inv = c.loop-number.invariant in
@@ -48,3 +48,6 @@ returns-clause-made g c =
     (ap (λ b. b.views) c.new-2.ensures.0 ∙ c.into_badge-2.ensures.2)
     (ap (λ m. m.0) e) (none_left o base n c.args.callers end) (c.new-2.ensures.1 ∙ sym end) (c.new-2.ensures.2 ∙ c.requires.known) (let m = inv.many in omega arith) in
     subst (AreNew o base c.args.self.now.table.shared.table_id 1) (sym c.push_reserved-2.ensures.items) (new_push o base _ 1 c.loop-number.passes.items c.new-2.result inv.new new)
+
+pub returns-clause-ready : goal.returns-clause-ready
+returns-clause-ready g c = new_ready _ _ _ _ _ (returns-clause-new g c)
