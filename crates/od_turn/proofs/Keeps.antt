@@ -28,7 +28,7 @@ seats_stay K vs me w mine others j d e = ⊎_elim (λ (t : (j ≡ me) × (w ≡ 
     (λ (t : (j ≢ me) × (get_elem? vs j ≡ some d)). others j d t.0 t.1) (at_set vs me j w d e)
 
 -- one more number below
-below_more : (t n : ℕ) → below t (n + 1) ≡ below t n + indicator (eqb n t)
+pub below_more : (t n : ℕ) → below t (n + 1) ≡ below t n + indicator (eqb n t)
 below_more t n = grind (arith, nat_tests)
 
 below_one : (t n : ℕ) → below t n ≤ 1
@@ -236,7 +236,7 @@ module _ {V : Type 0} (marks : V → List Mark) (origin : V → Origin) (callers
       let sum : length r.log + a ≡ length (marks x) = ap (λ (l : List Mark). length l + a) (sym is) ∙ more in
       let once : numbered k.number v ≡ 1 = let h = indicator_same k.number in omega arith in
       let rest_fit : (j : ℕ) (d : SeatView) → j ≢ id → get_elem? s.views j ≡ some d → SeatFits callers o r.busy r.serving (marks x) d = λ j d n e.
-      let two = total_two (numbered k.number) s.views id j v d n at e in let most = r.apart k.number in (
+      let two = total_two (numbered k.number) s.views id j v d n at e in let most = r.apart k.number in let b = below_one k.number (callers + 1) in (
         Each-both (λ k'. k'.number ≢ k.number) (PassFits callers o r.log) (PassFits callers o (marks x))
             (λ k' ne g. (g.0, g.1, continues_more (NamesOther k'.number) k'.seen r.log adds.0 (marks x) g.2 longer (one_each (NamesOther k'.number) k.number (λ m e f. ne (sym f ∙ e)) adds.0 adds.2)))
             d.passes (none_numbered k.number d.passes (omega arith)) (r.seats j d e).0,

@@ -13,9 +13,10 @@ use Rattle.od_turn.specs.declared.view.PassView.{PassView}
 use Rattle.od_turn.specs.declared.view.SeatView.{SeatView}
 use Rattle.od_turn.specs.declared.view.Stage.TheVariants.{Idle}
 use Rattle.od_turn.specs.declared.pass.Pass.{Pass}
-use Rattle.od_turn.specs.Rule.{total, indicator, is_numbered, PassFits, SeatFits, IsOrderly, new_pass, new_passes, first_view}
+use Rattle.od_turn.specs.Rule.{total, below, is_numbered, PassFits, SeatFits, IsOrderly, new_pass, new_passes, first_view}
 use Rattle.od_turn.specs.Steps.{at_stage, kept_back, issued}
 use Rattle.od_turn.specs.Passes.{pass_view, seen_of, IsPassOf, IsNew, AreNew}
+use Rattle.od_turn.proofs.Keeps.{below_more}
 use Rattle.od_turn.proofs.Tells.{pass_stands}
 use Rattle.od_turn.proofs.Alls.{each_all}
 
@@ -27,15 +28,14 @@ pub new_passes-length : (o : Origin) (base : List Mark) (n k : ℕ) → length (
 new_passes-length o base n zero = refl
 new_passes-length o base n (suc k) = let h = new_passes-length o base (suc n) k in omega arith
 
-new_passes-above : (o : Origin) (base : List Mark) (n k m : ℕ) → m < n → total (is_numbered m) (new_passes o base n k) ≡ 0
-new_passes-above o base n zero m l = refl
-new_passes-above o base n (suc k) m l = let h = new_passes-above o base (suc n) k m (omega arith) in let z : indicator (eqb n m) ≡ 0 = ap indicator (ne_eqb n m (λ e. omega arith)) in omega arith
-
-new_passes-apart : (o : Origin) (base : List Mark) (n k m : ℕ) → total (is_numbered m) (new_passes o base n k) ≤ 1
-new_passes-apart o base n zero m = omega arith
-new_passes-apart o base n (suc k) m = dite (ℕ_discrete n m)
-    (λ e. let z : indicator (eqb n m) ≡ 1 = ap indicator (eq-eqb n m e) in let h = new_passes-above o base (suc n) k m (omega arith) in omega arith)
-    (λ ne. let z : indicator (eqb n m) ≡ 0 = ap indicator (ne_eqb n m ne) in let h = new_passes-apart o base (suc n) k m in omega arith)
+new_passes-numbered : (o : Origin) (base : List Mark) (n k m : ℕ) → total (is_numbered m) (new_passes o base n k) + below m n ≡ below m (n + k)
+new_passes-numbered o base n zero m = let e : below m n ≡ below m (n + 0) = ap (below m) (omega arith) in omega arith
+new_passes-numbered o base n (suc k) m =
+    let h = new_passes-numbered o base (suc n) k m in
+    let more = below_more m n in
+    let e : below m (suc n + k) ≡ below m (n + suc k) = ap (below m) (omega arith) in
+    let d : below m (n + 1) ≡ below m (suc n) = ap (below m) (omega arith) in
+    omega arith
 
 new_passes-fit : (callers : ℕ) (o : Origin) (base : List Mark) (n k : ℕ) → 1 ≤ n → n + k ≤ callers + 1 → Each (PassFits callers o base) (new_passes o base n k)
 new_passes-fit callers o base n zero a b = tt
@@ -56,7 +56,7 @@ opens {V} marks origin callers count v x slots same filled long small = record {
   turn = λ e. absurd (cc (e));
   seats = λ j d e. subst (SeatFits callers (origin x) false 0 (marks x)) (at_single (first_view (origin x) (marks x) callers) d j e) (new_passes-fit callers (origin x) (marks x) 1 callers (omega arith) (omega arith), tt);
   all = let h = new_passes-length (origin x) (marks x) 1 callers in omega arith;
-  apart = λ n. let h = new_passes-apart (origin x) (marks x) 1 callers n in omega arith;
+  apart = λ n. let h = new_passes-numbered (origin x) (marks x) 1 callers n in let e : below n (1 + callers) ≡ below n (callers + 1) = ap (below n) (omega arith) in omega arith;
   added = ([], sym (append-nil (marks x)), tt);
 }
 

@@ -33,3 +33,14 @@ module _ {A : Type 0} where
   pub total_le : (f g : A → ℕ) (l : List A) → ((i : ℕ) (a : A) → get_elem? l i ≡ some a → f a ≤ g a) → total f l ≤ total g l
   total_le f g [] h = omega arith
   total_le f g (x ∷ xs) h = let a = h zero x refl in let b = total_le f g xs (λ i y e. h (suc i) y e) in omega arith
+
+  -- where f is at most g at each element, it is so of the others together
+  pub total_rest : (f g : A → ℕ) (l : List A) (i : ℕ) (a : A) → ((x : A) → f x ≤ g x) → get_elem? l i ≡ some a → total f l + g a ≤ total g l + f a
+  total_rest f g [] i a h e = absurd (some-ne-none a (sym e))
+  total_rest f g (x ∷ xs) zero a h e =
+      let s = some-injective x a e in
+      let p : f x ≡ f a = ap f s in
+      let q : g x ≡ g a = ap g s in
+      let b = total_le f g xs (λ i y _. h y) in
+      omega arith
+  total_rest f g (x ∷ xs) (suc i) a h e = let b = total_rest f g xs i a h e in let c = h x in omega arith

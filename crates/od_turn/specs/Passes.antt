@@ -1,5 +1,5 @@
 -- What clauses say of passes, and of the seat of a turn.
-use Rattle.std.specs.Prelude.{ℕ, suc, ◌≡◌, List, [], ◌∷◌, ◌++◌, length, map, Option, None}
+use Rattle.std.specs.Prelude.{ℕ, suc, ◌≡◌, ◌⊎◌, List, [], ◌∷◌, ◌++◌, length, map, Option, None}
 use Rattle.atomic_table.specs.Table.{Me}
 use Rattle.atomic_table.specs.Seated.{TableId}
 use Rattle.od_text.specs.Lists.{Each}
@@ -90,3 +90,12 @@ pass_views ps = map (λ p. pass_view p.badge.views) ps
 -- the passes are of this table, and in no turn
 abbrev pub AreFree : TableId → List Pass → Type 0
 AreFree id ps = Each (λ p. (p.badge.table_id ≡ id) × IsFree p.badge.views) ps
+
+-- one of the passes has this number
+abbrev pub HasNumber : ℕ → List Pass → Type 0
+HasNumber n [] = ⊥
+HasNumber n (p ∷ ps) = (p.number ≡ n) ⊎ HasNumber n ps
+
+-- the mark names one of the passes
+abbrev pub NamesOne : List Pass → Mark → Type 0
+NamesOne ps mark = HasNumber mark.caller ps

@@ -109,9 +109,9 @@ module _ {V : Type 0} (marks : V → List Mark) (origin : V → Origin) (callers
     pub slot : SlotFits busy log s.homes
     pub turn : busy ≡ true → (j : ℕ) × (v : SeatView) × (get_elem? s.views j ≡ some v) × IsInTurn v.stage
     pub seats : (j : ℕ) (v : SeatView) → get_elem? s.views j ≡ some v → SeatFits callers o busy serving log v
-    -- these are all passes, and no two have one number
+    -- these are all passes, and each number from 1 to callers is that of one
     pub all : total pass_count s.views ≡ callers
-    pub apart : (n : ℕ) → total (numbered n) s.views ≤ 1
+    pub apart : (n : ℕ) → total (numbered n) s.views + below n 1 ≡ below n (callers + 1)
     pub added : Continues (NamesPass callers) base log
 
 -- a pass at the beginning
@@ -131,4 +131,5 @@ first_view o base callers = record { passes = new_passes o base 1 callers; stage
 pub record IsLast (callers : ℕ) (o : Origin) (base : List Mark) (ps : List PassView) (from : Origin) (log : List Mark) : Type 0 where
   pub origin : from ≡ o
   pub seen : Each (PassFits callers o log) ps
+  pub numbers : (n : ℕ) → IsPassNumber callers n → 1 ≤ total (is_numbered n) ps
   pub added : Continues (NamesPass callers) base log

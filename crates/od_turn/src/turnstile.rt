@@ -34,10 +34,10 @@ pub struct Turnstile<V: Counted> {
 
 impl<V: Counted> Turnstile<V> {
     ghost use Rattle.std.specs.Prelude.{◌<◌, All, length, [], ◌∷◌, IfOk, IfErr, vec_capacity};
-    ghost use Rattle.od_turn.specs.Rule.{NamesOther, Continues, NamesPass, first_view};
+    ghost use Rattle.od_turn.specs.Rule.{Continues, first_view};
     ghost use Rattle.od_turn.specs.Steps.{at_stage};
     ghost use Rattle.od_turn.specs.declared.view.Stage.TheVariants.{Idle};
-    ghost use Rattle.od_turn.specs.Passes.{pass_view, seen_of, IsFree, AreFree, pass_views, IsPassOf, AreNew, BeginsIn, AddsAtMostOne};
+    ghost use Rattle.od_turn.specs.Passes.{pass_view, seen_of, IsFree, AreFree, pass_views, IsPassOf, AreNew, BeginsIn, AddsAtMostOne, NamesOne};
     ghost use Rattle.od_turn.specs.Locks.{lock_id, callers_of, first_value, start_origin, start_marks, taken_marks, IsPassAt, IsTurnAt, IsEnd};
 
     /// A lock round the value, and its passes, numbered from 1 in the order of the list. Each has
@@ -175,7 +175,7 @@ impl<V: Counted> Turnstile<V> {
         requires all { length passes.items ≡ callers_of self }
         ensures origin { V.origin result ≡ start_origin V.origin self }
         ensures seen { All (BeginsIn (V.marks result)) passes.items }
-        ensures named { Continues (NamesPass (callers_of self)) (start_marks V.marks self) (V.marks result) }
+        ensures named { Continues (NamesOne passes.items) (start_marks V.marks self) (V.marks result) }
     {
         let seat = self.collect(passes);
         self.finish(seat)
