@@ -2,5 +2,8 @@
 #![tactic(auto)]
 
 pub mod mark;
+pub mod mark_laws;
 pub mod origin;
 pub mod rows;
+#[cfg(test)]
+mod tests;

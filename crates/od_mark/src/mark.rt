@@ -29,12 +29,6 @@ pub struct Mark {
     pub lost: Option<Entry>,
 }
 
-impl Copied for Cause {
-    fn copy(&self, _alloc: Global) -> Result<Cause, NoMemory> {
-        Ok(*self)
-    }
-}
-
 /// An equal entry.
 pub fn copy_entry(alloc: Global, entry: &Entry) -> Result<Entry, NoMemory>
     ensures { IfOk result (λ twin. twin ≡ entry.now) }

@@ -4,3 +4,4 @@ pub mod Keeps
 pub mod Tells
 pub mod Starts
 pub mod Ends
+pub mod Own

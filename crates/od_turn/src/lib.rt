@@ -9,6 +9,7 @@
 #![tactic(auto)]
 
 mod counted;
+mod laws;
 mod pass;
 mod rule;
 mod steps;
@@ -19,6 +20,7 @@ mod turnstile;
 mod view;
 
 pub use counted::Counted;
+pub use laws::own_marks_stay;
 pub use pass::Pass;
 pub use rule::{Opening, TurnRule};
 pub use turn::Turn;
