@@ -1,4 +1,4 @@
-//! What a turn at the desk leaves behind: marks, the rows that a store keeps, and where a history goes on from.
+//! What a turn at the desk leaves behind, the rows that a store keeps, and where a history goes on from.
 #![tactic(auto)]
 
 pub mod mark;

@@ -15,7 +15,13 @@ use Rattle.od_turn.specs.Steps.{at_stage}
 
 -- the origin without rows, heads, bytes and faults
 abbrev pub blank_origin : Origin
-blank_origin = record { rows = record { docs = []; sessions = []; rounds = [] }; heads = []; sent = None; keeper_faults = 0; sink_faults = 0 }
+blank_origin = record {
+  rows = record { docs = []; sessions = []; rounds = [] };
+  heads = [];
+  sent = None;
+  keeper_faults = 0;
+  sink_faults = 0;
+}
 
 -- stands where there is no pass
 abbrev pub no_pass : PassView
@@ -50,7 +56,12 @@ held_marks m = held_in m.0.stage
 
 -- the seat of a turn: it has one pass and is in turn, and the slot is out with it, empty
 abbrev pub IsTurn : {V : Type 0} → Me (Option V) SeatView → Type 0
-IsTurn m = m ≡ (at_stage (first_pass m.0.passes ∷ []) (InTurn (ticket_in m.0.stage) (held_marks m)), (0, None) ∷ [])
+IsTurn m =
+    m ≡ (at_stage (first_pass m.0.passes ∷ []) (InTurn (ticket_in m.0.stage) (held_marks m)), (0, None) ∷ [])
+
+-- a seat with these passes, in no turn
+abbrev pub idle_seat : {S : Type 0} → List PassView → Me S SeatView
+idle_seat ps = (at_stage ps Idle, [])
 
 -- at most one mark, which names this caller
 abbrev pub AtMostOneOf : ℕ → List Mark → Type 0
@@ -66,9 +77,19 @@ AddsAtMostOne n before after = (more : List Mark) × (after ≡ before ++ more) 
 abbrev pub seen_of : Pass → List Mark
 seen_of p = (pass_view p.badge.views).seen
 
+-- the number that the table has for a pass
+abbrev pub number_of : Pass → ℕ
+number_of p = (pass_view p.badge.views).number
+
+-- the origin that the table has for a pass
+abbrev pub origin_of : Pass → Origin
+origin_of p = (pass_view p.badge.views).origin
+
 -- the pass is one that was made with this lock, of this origin, and it is in no turn
 abbrev pub IsPassOf : TableId → Origin → Pass → Type 0
-IsPassOf id o p = (p.badge.table_id ≡ id) × IsFree p.badge.views × ((pass_view p.badge.views).number ≡ p.number) × ((pass_view p.badge.views).origin ≡ o) × (p.known ≡ length (seen_of p))
+IsPassOf id o p =
+    (p.badge.table_id ≡ id) × IsFree p.badge.views × (number_of p ≡ p.number) × (origin_of p ≡ o)
+    × (p.known ≡ length (seen_of p))
 
 -- the marks go on from those that the pass has seen, with marks of others
 abbrev pub BeginsIn : List Mark → Pass → Type 0
@@ -99,3 +120,7 @@ HasNumber n (p ∷ ps) = (p.number ≡ n) ⊎ HasNumber n ps
 -- the mark names one of the passes
 abbrev pub NamesOne : List Pass → Mark → Type 0
 NamesOne ps mark = HasNumber mark.caller ps
+
+-- the marks go on, and each further one names one of the passes
+abbrev pub AddedBy : List Pass → List Mark → List Mark → Type 0
+AddedBy ps before after = Continues (NamesOne ps) before after

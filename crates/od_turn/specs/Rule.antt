@@ -70,9 +70,10 @@ IsPassNumber callers n = (1 ≤ n) × (n ≤ callers)
 abbrev pub NamesPass : ℕ → Mark → Type 0
 NamesPass callers mark = IsPassNumber callers mark.caller
 
--- what a pass stands for: its number is a pass's, and all marks past those that it has seen name others
+-- a pass: its number is one of them, and all marks past those that it has seen name others
 abbrev pub PassFits : ℕ → Origin → List Mark → PassView → Type 0
-PassFits callers o log p = IsPassNumber callers p.number × (p.origin ≡ o) × Continues (NamesOther p.number) p.seen log
+PassFits callers o log p =
+    IsPassNumber callers p.number × (p.origin ≡ o) × Continues (NamesOther p.number) p.seen log
 
 -- who waits has a pass, and who is in turn has the ticket that is served and knows all marks
 abbrev pub StageFits : Bool → ℕ → List Mark → List PassView → Stage → Type 0
@@ -81,7 +82,8 @@ StageFits busy serving log ps (Waiting t) = 0 < length ps
 StageFits busy serving log ps (InTurn t held) = (0 < length ps) × (busy ≡ true) × (t ≡ serving) × (held ≡ log)
 
 abbrev pub SeatFits : ℕ → Origin → Bool → ℕ → List Mark → SeatView → Type 0
-SeatFits callers o busy serving log v = Each (PassFits callers o log) v.passes × StageFits busy serving log v.passes v.stage
+SeatFits callers o busy serving log v =
+    Each (PassFits callers o log) v.passes × StageFits busy serving log v.passes v.stage
 
 abbrev pub IsInTurn : Stage → Type 0
 IsInTurn Idle = ⊥
@@ -95,7 +97,7 @@ module _ {V : Type 0} (marks : V → List Mark) (origin : V → Origin) (callers
   SlotFits true log homes = homes ≡ none ∷ []
   SlotFits false log homes = (x : V) × (homes ≡ some (Some x) ∷ []) × (marks x ≡ log) × (origin x ≡ o)
 
-  -- next: the tickets that were drawn; serving: the ticket that is served; log: all marks; busy: somebody is in turn
+  -- next: the tickets that were drawn; serving: the one that is served; log: all marks; busy: somebody is in turn
   pub record IsOrderly (s : State (Option V) SeatView) : Type 0 where
     pub next : ℕ
     pub serving : ℕ
@@ -107,8 +109,10 @@ module _ {V : Type 0} (marks : V → List Mark) (origin : V → Origin) (callers
     pub out : serving + total ticket_count s.views ≡ next
     pub each : (t : ℕ) → total (has_ticket t) s.views + below t serving ≡ below t next
     pub slot : SlotFits busy log s.homes
-    pub turn : busy ≡ true → (j : ℕ) × (v : SeatView) × (get_elem? s.views j ≡ some v) × IsInTurn v.stage
-    pub seats : (j : ℕ) (v : SeatView) → get_elem? s.views j ≡ some v → SeatFits callers o busy serving log v
+    pub turn : busy ≡ true
+        → (j : ℕ) × (v : SeatView) × (get_elem? s.views j ≡ some v) × IsInTurn v.stage
+    pub seats : (j : ℕ) (v : SeatView) → get_elem? s.views j ≡ some v
+        → SeatFits callers o busy serving log v
     -- these are all passes, and each number from 1 to callers is that of one
     pub all : total pass_count s.views ≡ callers
     pub apart : (n : ℕ) → total (numbered n) s.views + below n 1 ≡ below n (callers + 1)

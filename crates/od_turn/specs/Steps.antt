@@ -29,11 +29,14 @@ module _ {V : Type 0} (marks : V → List Mark) (origin : V → Origin) where
 
   -- the seat comes into its turn, with the slot and the value in it
   abbrev pub Comes : ℕ → Me (Option V) SeatView → Me (Option V) SeatView → Type 0
-  Comes t m m' = (x : V) × (m' ≡ (at_stage m.0.passes (InTurn t (marks x)), (0, Some x) ∷ m.1)) × Each (Precedes x) m.0.passes
+  Comes t m m' =
+      (x : V) × (m' ≡ (at_stage m.0.passes (InTurn t (marks x)), (0, Some x) ∷ m.1))
+      × Each (Precedes x) m.0.passes
 
   -- looking: where the number found is the ticket's the seat comes into its turn, else it waits on
   abbrev pub looks : Step (Option V) → Me (Option V) SeatView → ℕ → Me (Option V) SeatView → Type 0
-  looks st m found m' = (t : ℕ) → m.0.stage ≡ Waiting t → MatchBool (found == t % 2 ^ 64) (Comes t m m') (m' ≡ m)
+  looks st m found m' =
+      (t : ℕ) → m.0.stage ≡ Waiting t → MatchBool (found == t % 2 ^ 64) (Comes t m m') (m' ≡ m)
 
 -- the stage of a seat whose turn left these marks
 abbrev pub restaged : List Mark → Stage → Stage
@@ -49,8 +52,10 @@ abbrev pub raised_view : List Mark → SeatView → SeatView
 raised_view log v = at_stage (map (has_seen log) v.passes) (restaged log v.stage)
 
 -- raising the count: the seat has seen the marks of the value that is in its slot
-abbrev pub raises : {V : Type 0} → (V → List Mark) → Step (Option V) → Me (Option V) SeatView → ℕ → Me (Option V) SeatView → Type 0
-raises {V} marks st m found m' = (x : V) → m.1 ≡ (0, Some x) ∷ [] → m' ≡ (raised_view (marks x) m.0, m.1)
+abbrev pub raises : {V : Type 0} → (V → List Mark)
+    → Step (Option V) → Me (Option V) SeatView → ℕ → Me (Option V) SeatView → Type 0
+raises {V} marks st m found m' =
+    (x : V) → m.1 ≡ (0, Some x) ∷ [] → m' ≡ (raised_view (marks x) m.0, m.1)
 
 abbrev pub but_first : List PassView → List PassView
 but_first [] = []

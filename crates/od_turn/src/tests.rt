@@ -31,7 +31,7 @@ impl Counted for Tally {
 }
 
 impl Tally {
-    // Adds a mark of the caller with an entry of this call's number. Where memory is refused, nothing.
+    // Adds a mark of the caller, whose entry has this number. Where memory is refused, adds nothing.
     fn note(&mut self, caller: u32, call: u32)
         ensures { AddsAtMostOne caller self.old.marks.items self.new.marks.items }
     {
@@ -53,7 +53,7 @@ impl Tally {
         });
     }
 
-    // How many marks of the caller there are, where their entries are numbered from 1 in order, and else none.
+    // How many marks the caller left; 0 where their entries are not numbered from 1 in order.
     fn numbered(&self, caller: u32) -> u32 {
         let mut number: u32 = 0;
         for mark in &self.marks {

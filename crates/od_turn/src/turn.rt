@@ -5,7 +5,7 @@ ghost use Rattle.od_turn.specs.Passes.{held_marks, IsTurn};
 use crate::view::SeatView;
 use atomic_table::Seat;
 
-/// The value while its caller is in turn. It cannot be dropped: it is given back by `Turnstile::give`.
+/// The value while its caller is in turn. It cannot be dropped: `Turnstile::give` takes it back.
 pub struct Turn<V> {
     pub(crate) seat: Seat<Option<V>, SeatView>,
     pub(crate) value: V,

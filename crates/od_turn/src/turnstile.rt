@@ -29,16 +29,18 @@ const COUNT: usize = 2;
 #[derive(Drop)]
 pub struct Turnstile<V: Counted> {
     table: Table<Option<V>, SeatView, Opening<V>, TurnRule<V>, Global>,
-    ghost shape: { (table.shared.table_id.words ≡ 3) × (table.shared.table_id.slots ≡ 1) × (1 ≤ table.shared.key.callers) },
+    ghost three_words: { table.shared.table_id.words ≡ 3 },
+    ghost one_slot: { table.shared.table_id.slots ≡ 1 },
+    ghost some_callers: { 1 ≤ table.shared.key.callers },
 }
 
 impl<V: Counted> Turnstile<V> {
     ghost use Rattle.std.specs.Prelude.{◌<◌, All, length, [], ◌∷◌, IfOk, IfErr, vec_capacity};
-    ghost use Rattle.od_turn.specs.Rule.{Continues, first_view};
-    ghost use Rattle.od_turn.specs.Steps.{at_stage};
     ghost use Rattle.od_turn.specs.declared.view.Stage.TheVariants.{Idle};
-    ghost use Rattle.od_turn.specs.Passes.{pass_view, seen_of, IsFree, AreFree, pass_views, IsPassOf, AreNew, BeginsIn, AddsAtMostOne, NamesOne};
-    ghost use Rattle.od_turn.specs.Locks.{lock_id, callers_of, first_value, start_origin, start_marks, taken_marks, IsPassAt, IsTurnAt, IsEnd};
+    ghost use Rattle.od_turn.specs.Passes.{pass_view, pass_views, seen_of, idle_seat, IsFree, AreFree};
+    ghost use Rattle.od_turn.specs.Passes.{BeginsIn, AddsAtMostOne, AddedBy};
+    ghost use Rattle.od_turn.specs.Locks.{lock_id, callers_of, first_value, start_origin, start_marks};
+    ghost use Rattle.od_turn.specs.Locks.{first_seat, taken_marks, AreNewAt, IsPassAt, IsTurnAt, IsEnd};
 
     /// A lock round the value, and its passes, numbered from 1 in the order of the list. Each has
     /// seen the value's marks. `callers` is the number of passes. Where memory is refused, the value
@@ -53,7 +55,7 @@ impl<V: Counted> Turnstile<V> {
         ensures callers { IfOk result (λ r. callers_of r.0 ≡ callers) }
         ensures all { IfOk result (λ r. length r.1.items ≡ callers) }
         ensures ready { IfOk result (λ r. All (IsPassAt V.origin r.0) r.1.items) }
-        ensures new { IfOk result (λ r. AreNew (V.origin value) (V.marks value) (lock_id r.0) 1 r.1.items) }
+        ensures new { IfOk result (λ r. AreNewAt V.marks V.origin r.0 r.1.items) }
         ensures refused { IfErr result (λ r. r.0 ≡ value) }
     {
         let known = value.count();
@@ -93,11 +95,12 @@ impl<V: Counted> Turnstile<V> {
         known: u64,
     )
         requires own { seat.table_id ≡ lock_id self.now }
-        requires view { seat.me ≡ (first_view (start_origin V.origin self.now) (start_marks V.marks self.now) callers, []) }
-        requires room { (passes.old.items ≡ []) × (callers ≤ vec_capacity passes.old) × (1 ≤ callers) }
+        requires view { seat.me ≡ first_seat V.marks V.origin self.now callers }
+        requires room { (passes.old.items ≡ []) × (callers ≤ vec_capacity passes.old) }
+        requires some { 1 ≤ callers }
         requires known { known ≡ length (start_marks V.marks self.now) }
         ensures ready { All (IsPassAt V.origin self.now) passes.new.items }
-        ensures new { AreNew (start_origin V.origin self.now) (start_marks V.marks self.now) (lock_id self.now) 1 passes.new.items }
+        ensures new { AreNewAt V.marks V.origin self.now passes.new.items }
         ensures all { length passes.new.items ≡ callers }
     {
         for number in 1..callers {
@@ -161,7 +164,7 @@ impl<V: Counted> Turnstile<V> {
     }
 
     /// The number of marks that the pass has seen. It reads no word that threads share, so it does
-    /// not change while others have their turns. While the pass is in a turn, it is the number before.
+    /// not change while others have their turns. In a turn of the pass it is the number before.
     pub fn known(&self, pass: &Pass) -> u64
         ensures number { result ≡ pass.now.known }
         ensures seen { IsPassAt V.origin self.now pass.now → result ≡ length (seen_of pass.now) }
@@ -175,7 +178,7 @@ impl<V: Counted> Turnstile<V> {
         requires all { length passes.items ≡ callers_of self }
         ensures origin { V.origin result ≡ start_origin V.origin self }
         ensures seen { All (BeginsIn (V.marks result)) passes.items }
-        ensures named { Continues (NamesOne passes.items) (start_marks V.marks self) (V.marks result) }
+        ensures named { AddedBy passes.items (start_marks V.marks self) (V.marks result) }
     {
         let seat = self.collect(passes);
         self.finish(seat)
@@ -186,7 +189,7 @@ impl<V: Counted> Turnstile<V> {
         requires free { AreFree (lock_id self.now) passes.items }
         requires some { 0 < length passes.items }
         ensures own { result.table_id ≡ lock_id self.now }
-        ensures view { result.me ≡ (at_stage (pass_views passes.items) Idle, []) }
+        ensures view { result.me ≡ idle_seat (pass_views passes.items) }
     {
         let Some(last) = passes.pop() else {
             unreachable!()
@@ -205,7 +208,7 @@ impl<V: Counted> Turnstile<V> {
         requires idle { (seat.old.me.0.stage ≡ Idle) × (seat.old.me.1 ≡ []) }
         requires free { (pass.badge.table_id ≡ lock_id self.now) × IsFree pass.badge.views }
         ensures own { seat.new.table_id ≡ lock_id self.now }
-        ensures view { seat.new.me ≡ (at_stage (pass_view pass.badge.views ∷ seat.old.me.0.passes) Idle, []) }
+        ensures view { seat.new.me ≡ idle_seat (pass_view pass.badge.views ∷ seat.old.me.0.passes) }
     {
         self.table
             .shared
@@ -215,7 +218,7 @@ impl<V: Counted> Turnstile<V> {
     // Takes the value out of the table, of which this seat has all passes.
     fn finish(self, seat: Seat<Option<V>, SeatView>) -> V
         requires own { seat.table_id ≡ lock_id self }
-        requires view { seat.me ≡ (at_stage seat.me.0.passes Idle, []) }
+        requires view { seat.me ≡ idle_seat seat.me.0.passes }
         requires all { length seat.me.0.passes ≡ callers_of self }
         ensures ends { IsEnd V.marks V.origin self seat.me.0.passes result }
     {
