@@ -1,6 +1,5 @@
 -- The histories of marks that go on.
-use Rattle.std.proofs.Common.{◌≡◌, List, [], ◌∷◌, ◌++◌, refl, sym, ap, ◌∙◌, append_assoc}
-use Rattle.od_mark.specs.declared.mark.Mark.{Mark}
+use Rattle.std.proofs.Common.{[], ◌∷◌, ◌++◌, refl, sym, ap, ◌∙◌, append_assoc}
 use Rattle.od_mark.specs.Marks.{entry_list, entries_of}
 use Rattle.od_mark.specs.Laws.{HistoriesJoin}
 

@@ -1,5 +1,5 @@
 -- Marks: the history that they stand for, what one may be, and whose it is.
-use Rattle.std.specs.Prelude.{ℕ, ◌≡◌, ◌==◌, List, [], ◌∷◌, ◌++◌, Option, Some, None, filter, if◌then◌else◌}
+use Rattle.std.specs.Prelude.{ℕ, ◌==◌, List, [], ◌∷◌, ◌++◌, Option, Some, None, filter}
 use Rattle.od_command.specs.declared.history.Entry.{Entry}
 use Rattle.od_mark.specs.declared.mark.Mark.{Mark}
 

@@ -1,5 +1,5 @@
 -- What holds of each element, by recursion and by index.
-use Rattle.std.proofs.Common.{ℕ, zero, suc, ◌<◌, List, [], ◌∷◌, length, get_or, All, arith}
+use Rattle.std.proofs.Common.{zero, suc, List, [], ◌∷◌, All, arith}
 use Rattle.od_text.specs.Lists.{Each}
 
 pub all_each : {A : Type 0} (P : A → Type 0) (xs : List A) → All P xs → Each P xs

@@ -1,8 +1,6 @@
 -- The table as it is made, and the pass_count that are cut from the first seat.
-use Rattle.std.proofs.Common.{All, ◌≡◌, ℕ, zero, suc, ◌+◌, ◌-◌, ◌^◌, ◌<◌, ◌≤◌, false, List, [], ◌∷◌, ◌++◌, map, length, Option, Some, refl, sym, ap, ◌∙◌, subst, arith, append-nil, eqb, eq-eqb, ne_eqb}
-use mathlib.Core.Logic.{dite}
+use Rattle.std.proofs.Common.{All, ◌≡◌, ℕ, zero, suc, ◌+◌, ◌-◌, ◌^◌, ◌<◌, ◌≤◌, false, List, [], ◌∷◌, ◌++◌, map, length, Option, Some, refl, sym, ap, ◌∙◌, subst, arith, append-nil}
 use mathlib.Core.Option.{some, some-injective, some-ne-none}
-use native.Mathlib.Decide.{ℕ_discrete}
 use lib.ListN.{get_elem?}
 use Rattle.atomic_table.specs.Table.{opening}
 use Rattle.atomic_table.specs.Seated.{TableId}
@@ -15,7 +13,7 @@ use Rattle.od_turn.specs.declared.view.Stage.TheVariants.{Idle}
 use Rattle.od_turn.specs.declared.pass.Pass.{Pass}
 use Rattle.od_turn.specs.Rule.{total, below, is_numbered, PassFits, SeatFits, IsOrderly, new_pass, new_passes, first_view}
 use Rattle.od_turn.specs.Steps.{at_stage, kept_back, issued}
-use Rattle.od_turn.specs.Passes.{pass_view, seen_of, IsPassOf, IsNew, AreNew}
+use Rattle.od_turn.specs.Passes.{pass_view, IsPassOf, IsNew, AreNew}
 use Rattle.od_turn.proofs.Keeps.{below_more}
 use Rattle.od_turn.proofs.Tells.{pass_stands}
 use Rattle.od_turn.proofs.Alls.{each_all}

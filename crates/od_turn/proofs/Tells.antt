@@ -11,7 +11,7 @@ use Rattle.od_turn.specs.declared.view.SeatView.{SeatView}
 use Rattle.od_turn.specs.declared.view.Stage.TheVariants.{Idle, Waiting, InTurn}
 use Rattle.od_turn.specs.declared.view.PassView.{PassView}
 use Rattle.od_turn.specs.Steps.{at_stage, looks, Comes, raises, raised_view, has_seen}
-use Rattle.od_turn.specs.Passes.{first_pass, pass_view, seen_of, held_marks, ticket_in, IsTurn, IsFree, IsPassOf, AddsAtMostOne}
+use Rattle.od_turn.specs.Passes.{first_pass, pass_view, held_marks, ticket_in, IsTurn, IsFree, IsPassOf, AddsAtMostOne}
 
 pub came : {V : Type 0} (marks : V → List Mark) (origin : V → Origin) (m m' : Me (Option V) SeatView) (n ticket t : ℕ)
     → looks marks origin (step 1 1 0 0 none) m n m' → m.0.stage ≡ Waiting t → ticket ≡ t % 2 ^ 64 → n ≡ ticket → Comes marks origin t m m'

@@ -10,7 +10,7 @@ use Rattle.od_turn.specs.declared.view.SeatView.{SeatView}
 use Rattle.od_turn.specs.declared.view.Stage.{Stage}
 use Rattle.od_turn.specs.declared.view.Stage.TheVariants.{Idle, Waiting, InTurn}
 use Rattle.od_turn.specs.declared.pass.Pass.{Pass}
-use Rattle.od_turn.specs.Rule.{Continues, NamesOther, new_pass}
+use Rattle.od_turn.specs.Rule.{Continues, NamesOther}
 use Rattle.od_turn.specs.Steps.{at_stage}
 
 -- the origin without rows, heads, bytes and faults

@@ -1,4 +1,14 @@
 //! The rule of the table: what holds of its words, its slot and the seats between any two steps.
+//!
+//! - The tickets that are out are the numbers from the one served to the next one drawn, each at one
+//!   seat. The words keep their last 64 bits; at most as many tickets are out as there are passes,
+//!   fewer than 2^32, so no two tickets that are out look alike.
+//! - At most one seat is in turn: the one whose ticket is served. While one is, the slot is out with
+//!   it, and else a value is in the slot.
+//! - There is one list of marks. Its length is the count, a value in the slot stands for it, and each
+//!   pass has seen a beginning of it, past which the marks name other callers.
+//! - Each number from 1 to that of the passes is the number of one pass. Each mark past those of the
+//!   first value names such a number. All passes, and a value in the slot, have one origin.
 use crate::counted::Counted;
 use crate::view::SeatView;
 use atomic_table::TableRule;

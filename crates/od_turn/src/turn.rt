@@ -5,7 +5,8 @@ ghost use Rattle.od_turn.specs.Passes.{held_marks, IsTurn};
 use crate::view::SeatView;
 use atomic_table::Seat;
 
-/// The value while its caller is in turn. It cannot be dropped: `Turnstile::give` takes it back.
+/// The value while its caller is in turn. It cannot be dropped: `Turnstile::give` takes it back on
+/// every path, so nothing between `take` and `give` leaves early. Others wait for as long as it lasts.
 pub struct Turn<V> {
     pub(crate) seat: Seat<Option<V>, SeatView>,
     pub(crate) value: V,

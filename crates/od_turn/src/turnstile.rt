@@ -1,4 +1,11 @@
 //! The lock and its calls.
+//!
+//! Threads share three words and a slot, where the value lies while nobody is in turn. A turn takes
+//! six steps. The caller draws a ticket from the first word, and looks at the second until that
+//! ticket is served: with that look the slot is the caller's. It takes the value out. At the end it
+//! puts the value back, raises the third word, the count of marks, by the marks that it added, and
+//! serves the next ticket: with that step the slot is open again. Two more steps come outside turns:
+//! a pass is cut from the first seat, and the passes come together in one.
 ghost use Rattle.std.specs.Prelude.{◌≡◌, ◌≤◌};
 
 use crate::counted::Counted;
