@@ -25,8 +25,8 @@ abbrev pub opened : Head → List ℕ → List ℕ → Bor (List ℕ) × ℕ →
 opened head name body p = script_with head name body p.0.now p.1
 
 -- the head of the pieces' grammar
-abbrev pub head_of : Pieces → Head
-head_of p = record { name = p.grammar.now; kind = Query; text = p.query.now }
+abbrev pub head_made : Pieces → Head
+head_made p = record { name = p.grammar.now; kind = Query; text = p.query.now }
 
 -- the command that adds the pieces' document
 abbrev pub adding_shown : Pieces → Command
@@ -42,7 +42,7 @@ orders_shown p = One (adding_shown p) ∷ One (opening_shown p) ∷ Run p.sessio
 
 -- the script that the pieces are of
 abbrev pub script_shown : Pieces → Script
-script_shown p = script_with (head_of p) p.document.now p.body.now p.session.now p.limit
+script_shown p = script_with (head_made p) p.document.now p.body.now p.session.now p.limit
 
 -- whatever stood before, with this grammar the bytes are the end of a script exactly where they give its session and limit
 abbrev pub IsEnding : List ℕ → List ℕ → Option (Bor (List ℕ) × ℕ) → Type 0

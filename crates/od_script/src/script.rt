@@ -20,7 +20,7 @@ ghost use Rattle.od_order.specs.Names.{is_name_byte, is_name, digits_from, scrip
 ghost use Rattle.od_order.specs.Thin.{parts_of, query_line, doc_words, open_words, script_of};
 ghost use Rattle.od_order.specs.declared.script.TheConstants.{NUMBER_DIGITS};
 ghost use Rattle.od_script.specs.declared.script.ScriptFault.TheVariants.{NoMemory as OutOfMemory};
-ghost use Rattle.od_script.specs.Scripts.{head_shown, count_shown, adding_shown, opening_shown, orders_shown, head_of, script_shown, IsBlock, IsEnding};
+ghost use Rattle.od_script.specs.Scripts.{head_shown, count_shown, adding_shown, opening_shown, orders_shown, head_made, script_shown, IsBlock, IsEnding};
 
 use od_command::history::Command;
 use od_order::script::{NAME_BYTES, NUMBER_DIGITS, Order, SCRIPT_BYTES, Script};
@@ -294,7 +294,7 @@ fn orders(alloc: Global, pieces: &Pieces<'_>) -> Result<List<Order>, NoMemory>
 
 /// The head of the one grammar.
 fn head(alloc: Global, pieces: &Pieces<'_>) -> Result<Head, NoMemory>
-    ensures { IfOk result (λ head. head ≡ head_of pieces.now) }
+    ensures { IfOk result (λ head. head ≡ head_made pieces.now) }
 {
     Ok(Head {
         name: Text::from_str(alloc, pieces.grammar)?,

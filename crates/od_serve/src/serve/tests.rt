@@ -3,11 +3,12 @@ ghost use Rattle.std.specs.Prelude.{◌≤◌, length, IfOk};
 ghost use Rattle.od_order.specs.declared.script.TheConstants.{CLIENT_ORDERS};
 ghost use Rattle.od_model.specs.Run.Clients.{IsRunnable};
 
-use super::{Ended, Run, accept, odinson, run_script};
+use super::{Ended, Run, accept, exit_status, odinson, run_script, warn};
 use crate::examples::{Ask, DOGS, command, head};
 use od_io::{MemSink, MemSource};
 use od_model::status::Status;
 use od_order::script::{Order, Script};
+use od_pattern::grammar::{GrammarKind, Head};
 use od_text::list::List;
 use od_text::text::{Bytes, NoMemory, Text};
 use std::alloc::{AllocError, Global};
@@ -29,6 +30,8 @@ const COMMENT_LINES: &[u8] =
 const USAGE: &[u8] = b"odinson: usage: see help\n";
 
 const NO_SCRIPT: &[u8] = b"odinson: script line 0: Later\n";
+
+const NAMED: &[u8] = b"odinson: grammar rules: Later\n";
 
 const READ_FAULT: &[u8] = b"odinson: read fault\n";
 
@@ -222,5 +225,32 @@ fn a_second_client_goes_on_with_a_released_session(rt: HostRuntime) -> Result<()
     assert!(rt; matches!(status, Status::Refused));
     assert!(rt; sink.written() == TWO_CLIENTS_LINES);
     assert_eq!(rt; history.len(), 9);
+    Ok(())
+}
+
+/// Of two grammars the second is a rule file, which is not accepted yet.
+#[test]
+fn the_first_grammar_that_is_not_accepted_is_named(rt: HostRuntime) -> Result<(), Fail> {
+    let alloc = rt.alloc();
+    let mut heads = List::new(alloc);
+    heads.push(head(alloc)?)?;
+    heads.push(Head {
+        name: Text::from_str(alloc, "rules")?,
+        kind: GrammarKind::RuleFile,
+        text: Text::from_str(alloc, "rules:\n")?,
+    })?;
+    let script = Script {
+        heads,
+        clients: List::new(alloc),
+    };
+    let mut diag = MemSink::new(alloc, 100)?;
+    match accept(alloc, script) {
+        Ok(_) => assert!(rt; false),
+        Err(status) => {
+            assert_eq!(rt; exit_status(&status), 4);
+            warn(&mut diag, &status);
+        }
+    }
+    assert!(rt; diag.written() == NAMED);
     Ok(())
 }
