@@ -1,9 +1,8 @@
 -- A hop read one lexeme at a time: a means of proof, and of computing. No definition of the language
 -- speaks of it. It runs the machines of surfaces and of steps in turn.
-use Rattle.std.specs.Prelude.{Bool, true, false, if◌then◌else◌, List, [], ◌∷◌, ◌++◌, ℕ, Option, Some, None, Result, Ok, Err}
+use Rattle.std.specs.Prelude.{Bool, true, false, if◌then◌else◌, [], ◌∷◌, ◌++◌, ℕ, Option, Some, None, Result, Ok, Err}
 use Rattle.od_pattern.specs.declared.pattern.Surface.{Surface}
 use Rattle.od_pattern.specs.declared.path.Path.{Path}
-use Rattle.od_pattern.specs.declared.rule.HopPart.{HopPart}
 use Rattle.od_pattern.specs.declared.rule.Hop.{Hop}
 use Rattle.od_language.specs.declared.pattern_fault.PatternKind.{PatternKind}
 use Rattle.od_language.specs.declared.pattern_fault.PatternKind.TheVariants as kind

@@ -1,5 +1,5 @@
 -- A word of the grammar takes the machine to its end.
-use Rattle.std.proofs.Common.{◌≡◌, ℕ, Bool, true, false, if◌then◌else◌, List, [], ◌∷◌, ◌++◌, Option, Some, None, Result, Ok, Err, refl, sym, ◌∙◌, ap, subst, append_assoc, append-nil}
+use Rattle.std.proofs.Common.{◌≡◌, ℕ, Bool, false, if◌then◌else◌, List, [], ◌∷◌, ◌++◌, Option, Some, Result, Ok, Err, refl, sym, ◌∙◌, ap, subst, append_assoc, append-nil}
 use Rattle.od_pattern.specs.declared.pattern.Surface.{Surface}
 use Rattle.od_pattern.specs.declared.path.Path.{Path}
 use Rattle.od_pattern.specs.declared.rule.HopPart.{HopPart}
@@ -10,7 +10,7 @@ use Rattle.od_language.specs.declared.lexeme.LexKind.{LexKind}
 use Rattle.od_language.specs.declared.lexeme.LexKind.TheVariants.{Word, Quoted, Regex, NameOpen, AheadIs, AheadNot, BehindIs, BehindNot, SquareOpen, RoundOpen, RoundClose, At, Caret, Dollar, Along, Against, AnyAlong, AnyAgainst}
 use Rattle.od_language.specs.Machine.{◌>>=◌, steps}
 use Rattle.od_language.proofs.Machine.{steps_append}
-use Rattle.od_syntax.specs.HopMachine.{State, first, between, behind, alone, joined, bars_in, bars, to_steps, from_surface, to_surface, from_steps, atom_of, wide_step, one_step, step, ended, alone_if, joined_if}
+use Rattle.od_syntax.specs.HopMachine.{State, first, between, behind, alone, joined, bars_in, bars, to_steps, from_surface, to_surface, from_steps, wide_step, one_step, step, ended, alone_if, joined_if}
 use Rattle.od_syntax.specs.Hops.{StepAtom, step as one, group, StepPart, once, repeated, StepParts, last as last_step, more as more_steps, Steps, all as all_steps, Concat, all, HopParts, last, more, Hops}
 use Rattle.od_syntax.specs.Hops as hops
 use Rattle.od_syntax.specs.StepsMachine as path

@@ -1,5 +1,5 @@
 -- The machine that takes any quantifier reads hops under the rules of whole texts.
-use Rattle.std.proofs.Common.{◌≡◌, ℕ, Bool, false, if◌then◌else◌, List, [], Option, Some, None, Result, Ok, Err, refl, ◌∙◌, ap}
+use Rattle.std.proofs.Common.{◌≡◌, false, if◌then◌else◌, [], Option, Some, None, Ok, Err, refl, ◌∙◌, ap}
 use Rattle.od_pattern.specs.declared.rule.Hop.{Hop}
 use Rattle.od_pattern.specs.declared.path.Path.{Path}
 use Rattle.od_language.specs.declared.pattern_fault.PatternKind.{PatternKind}
@@ -8,7 +8,7 @@ use Rattle.od_language.specs.declared.lexeme.LexKind.{LexKind}
 use Rattle.od_language.specs.declared.lexeme.LexKind.TheVariants.{Range, Question, Star, Plus}
 use Rattle.od_language.specs.Machine.{IsReader}
 use Rattle.od_language.proofs.Narrower as narrowing
-use Rattle.od_syntax.specs.HopMachine.{State, first, between, behind, bars, to_steps, from_surface, one_step, wide_step, step, ended, alone_if, joined_if, repeat_rule}
+use Rattle.od_syntax.specs.HopMachine.{State, first, between, behind, bars, to_steps, from_surface, step, ended, alone_if, joined_if, repeat_rule}
 use Rattle.od_syntax.specs.Hops.{Hops, BreaksHop, rule_untold}
 use Rattle.od_syntax.specs.HopVerdicts.{hop_start, hop_rule}
 use Rattle.od_syntax.specs.Rules.{bad_range, capture_or_own}

@@ -1,5 +1,5 @@
 -- What the machines of surfaces and of steps take, that of hops takes in its place.
-use Rattle.std.proofs.Common.{◌≡◌, ℕ, Bool, true, false, if◌then◌else◌, List, [], ◌∷◌, ◌++◌, Option, Some, None, Result, Ok, Err, refl, sym, ◌∙◌, ap}
+use Rattle.std.proofs.Common.{◌≡◌, ℕ, Bool, true, false, if◌then◌else◌, List, [], ◌∷◌, Option, Result, Ok, Err, refl, sym, ◌∙◌, ap}
 use Rattle.od_pattern.specs.declared.pattern.Surface.{Surface}
 use Rattle.od_pattern.specs.declared.path.Path.{Path}
 use Rattle.od_pattern.specs.declared.rule.Hop.{Hop}
@@ -7,11 +7,11 @@ use Rattle.od_language.specs.declared.pattern_fault.PatternKind.{PatternKind}
 use Rattle.od_language.specs.declared.pattern_fault.PatternKind.TheVariants as kind
 use Rattle.od_language.specs.declared.lexeme.LexKind.{LexKind}
 use Rattle.od_language.specs.Machine.{◌>>=◌, steps}
-use Rattle.od_syntax.specs.HopMachine.{State, first, between, behind, bars, to_steps, from_surface, to_surface, from_steps, atom_of, wide_step, one_step, step, ended, alone_if, joined_if}
+use Rattle.od_syntax.specs.HopMachine.{first, between, behind, bars, from_surface, from_steps, step, alone_if, joined_if}
 use Rattle.od_syntax.specs.StepsMachine as path
 use Rattle.od_syntax.specs.SurfaceMachine as surface
 use Rattle.od_syntax.specs.Told.{Told, lexeme, as_told}
-use Rattle.od_syntax.proofs.Surfaces.Single.{is_single, IsSingleBy, by_step, joins_single}
+use Rattle.od_syntax.proofs.Surfaces.Single.{is_single, IsSingleBy, by_step}
 
 module _ (may : Surface → Option ℕ → Bool) where
   -- in the first surface

@@ -2,7 +2,7 @@
 use Rattle.std.proofs.Common.{◌≡◌, ℕ, Bool, true, false, if◌then◌else◌, List, [], ◌∷◌, Ok, Err, refl, sym, ◌∙◌, ap, ◌⊎◌, inl, inr}
 use Rattle.od_language.specs.declared.lexeme.Lexeme.{Lexeme}
 use Rattle.od_language.specs.declared.lexeme.LexKind.{LexKind}
-use Rattle.od_language.specs.declared.lexeme.LexKind.TheVariants.{RoundOpen, End}
+use Rattle.od_language.specs.declared.lexeme.LexKind.TheVariants.{RoundOpen}
 use Rattle.od_language.specs.declared.pattern_fault.PatternKind.{PatternKind}
 use Rattle.od_language.specs.Alphabet.{plain, kinds, HasOneEnd}
 use Rattle.od_language.specs.Lexed.{lexed_from}
