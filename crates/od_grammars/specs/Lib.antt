@@ -1,0 +1,4 @@
+-- Grammars whole.
+pub mod Bodies
+pub mod Examples
+pub mod Grammars
