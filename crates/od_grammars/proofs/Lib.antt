@@ -1,3 +1,4 @@
 -- The lemmas of this crate.
 pub mod Bodies
 pub mod Examples
+pub mod PatternFaults

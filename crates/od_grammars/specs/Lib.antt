@@ -2,3 +2,4 @@
 pub mod Bodies
 pub mod Examples
 pub mod Grammars
+pub mod PatternFaults

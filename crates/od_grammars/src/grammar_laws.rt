@@ -3,6 +3,7 @@
 //! A law is what a function here ensures; the function itself does nothing.
 ghost use Rattle.od_grammars.specs.Bodies.{BodiesAreComputed, RulesAreMeant};
 ghost use Rattle.od_grammars.specs.Examples.{FileExamples, QueryExamples, FaultExamples};
+ghost use Rattle.od_grammars.specs.PatternFaults.{RuleFaultsAreMeant, QueryFaultsAreMeant};
 
 /// The text of a rule's pattern, once its variables are replaced, has exactly one value or exactly one
 /// first fault, and never both: that which grammars are read with.
@@ -16,6 +17,13 @@ pub fn bodies_are_computed()
 #[tactic(auto, using(crate::proofs::Bodies::rules_are_meant))]
 pub fn rules_are_meant()
     ensures { RulesAreMeant }
+{}
+
+/// Where the first fault of a grammar is that of a pattern, it tells the number of its rule, from 1,
+/// and the first fault of the pattern's text once its variables are replaced; a query is rule 1.
+pub fn pattern_faults_are_meant()
+    ensures rules { RuleFaultsAreMeant }
+    ensures queries { QueryFaultsAreMeant }
 {}
 
 /// Worked cases.
