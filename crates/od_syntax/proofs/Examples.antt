@@ -55,6 +55,11 @@ hop_examples = record {
   character = refl;
   too_big = refl;
   choices_in_steps = refl;
+  steps_in_steps = refl;
+  bracket_behind_steps = refl;
+  choices_alone = refl;
+  choices_in_brackets = refl;
+  two_steps = refl;
   plain_steps = refl;
 }
 

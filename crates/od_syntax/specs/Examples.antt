@@ -1,5 +1,5 @@
 -- Worked cases: texts with their first faults, and the brackets that open steps.
-use Rattle.std.specs.Prelude.{◌≡◌, ℕ, List, [], ◌∷◌, Some, Ok, Err, codes}
+use Rattle.std.specs.Prelude.{◌≡◌, ℕ, List, [], ◌∷◌, Some, None, Ok, Err, codes}
 use Rattle.od_pattern.specs.declared.pattern.Constraint.TheVariants as constraint
 use Rattle.od_pattern.specs.declared.pattern.Field.TheVariants.{Norm, Tag}
 use Rattle.od_pattern.specs.declared.pattern.Surface.{Surface}
@@ -114,6 +114,25 @@ pub record HopExamples : Type 0 where
   pub too_big : NoHop (codes "a (>x){1000} (b{1000}){4}") 0 kind.TooBig
   pub choices_in_steps : IsHopOf (codes "a (>x ([tag=a] | >y)) b")
       (from_to (codes "a") (path.Seq (edge (codes "x") ∷ path.Alt (tagged (codes "a") ∷ edge (codes "y") ∷ []) ∷ [])) (codes "b"))
+  pub steps_in_steps : IsHopOf (codes "a >x (>y ([tag=a] >z)) b")
+      (from_to (codes "a") (path.Seq (edge (codes "x") ∷ path.Seq (edge (codes "y") ∷ path.Seq (tagged (codes "a") ∷ edge (codes "z") ∷ []) ∷ []) ∷ [])) (codes "b"))
+  pub bracket_behind_steps : IsHopOf (codes "a >x ([tag=a]) b") (record {
+    first = word (codes "a");
+    rest = record {
+      path = edge (codes "x");
+      surface = surface.Seq (surface.Token (constraint.Is Tag (Plain (codes "a"))) ∷ word (codes "b") ∷ []);
+    } ∷ [];
+  })
+  pub choices_alone : IsHopOf (codes "a | b") (record { first = surface.Alt (word (codes "a") ∷ word (codes "b") ∷ []); rest = [] })
+  pub choices_in_brackets : IsHopOf (codes "a >x (b | c)") (record {
+    first = word (codes "a");
+    rest = record { path = edge (codes "x"); surface = surface.Alt (word (codes "b") ∷ word (codes "c") ∷ []) } ∷ [];
+  })
+  pub two_steps : IsHopOf (codes "a >x b >>+ c") (record {
+    first = word (codes "a");
+    rest = record { path = edge (codes "x"); surface = word (codes "b") }
+        ∷ record { path = path.Repeat (path.Along None) 1 None; surface = word (codes "c") } ∷ [];
+  })
   pub plain_steps : IsHopOf (codes "a >x b") (from_to (codes "a") (edge (codes "x")) (codes "b"))
 
 -- A path's quantifier has no lazy form, and a path wants no surface.
