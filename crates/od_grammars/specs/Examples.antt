@@ -44,7 +44,8 @@ from n = record { first = n; last = None }
 
 -- two tokens, and a path from the first to the second
 abbrev pub from_to : Surface → Path → Surface → Body
-from_to first p second = Basic (record { first = first; rest = record { path = p; surface = second } ∷ [] })
+from_to first p second =
+    Basic (record { first = first; rest = record { path = p; surface = second } ∷ [] })
 
 -- a rule of the type basic, and one of the type event with a literal block
 abbrev pub two_rules : List ℕ

@@ -25,7 +25,8 @@ pub record IsPatternOf (vars item : List KeyText) (at : ℕ) (k : PatternKind) :
   pub first_fault : IsBodyFault type text at k
 
 -- the item of this number, from 1, has such a pattern
-pub record IsPatternAt (vars : List KeyText) (items : List (List KeyText)) (n at : ℕ) (k : PatternKind) : Type 0 where
+pub record IsPatternAt (vars : List KeyText) (items : List (List KeyText))
+    (n at : ℕ) (k : PatternKind) : Type 0 where
   pub before : List (List KeyText)
   pub item : List KeyText
   pub behind : List (List KeyText)

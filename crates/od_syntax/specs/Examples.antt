@@ -89,6 +89,13 @@ edge label = path.Along (Some (Plain label))
 abbrev pub tagged : List ℕ → Path
 tagged tag = path.Filter (constraint.Is Tag (Plain tag))
 
+-- one path behind another, and either of two paths
+abbrev pub in_order : Path → Path → Path
+in_order p q = path.Seq (p ∷ q ∷ [])
+
+abbrev pub either : Path → Path → Path
+either p q = path.Alt (p ∷ q ∷ [])
+
 -- a hop of two words
 abbrev pub from_to : List ℕ → Path → List ℕ → Hop
 from_to a p b = record { first = word a; rest = record { path = p; surface = word b } ∷ [] }
@@ -113,9 +120,11 @@ pub record HopExamples : Type 0 where
   pub character : NoHop (codes "a >x %") 5 kind.Lex
   pub too_big : NoHop (codes "a (>x){1000} (b{1000}){4}") 0 kind.TooBig
   pub choices_in_steps : IsHopOf (codes "a (>x ([tag=a] | >y)) b")
-      (from_to (codes "a") (path.Seq (edge (codes "x") ∷ path.Alt (tagged (codes "a") ∷ edge (codes "y") ∷ []) ∷ [])) (codes "b"))
+      (from_to (codes "a") (in_order (edge (codes "x")) (either (tagged (codes "a")) (edge (codes "y")))) (codes "b"))
   pub steps_in_steps : IsHopOf (codes "a >x (>y ([tag=a] >z)) b")
-      (from_to (codes "a") (path.Seq (edge (codes "x") ∷ path.Seq (edge (codes "y") ∷ path.Seq (tagged (codes "a") ∷ edge (codes "z") ∷ []) ∷ []) ∷ [])) (codes "b"))
+      (from_to (codes "a")
+      (in_order (edge (codes "x")) (in_order (edge (codes "y")) (in_order (tagged (codes "a")) (edge (codes "z")))))
+      (codes "b"))
   pub bracket_behind_steps : IsHopOf (codes "a >x ([tag=a]) b") (record {
     first = word (codes "a");
     rest = record {
@@ -123,7 +132,10 @@ pub record HopExamples : Type 0 where
       surface = surface.Seq (surface.Token (constraint.Is Tag (Plain (codes "a"))) ∷ word (codes "b") ∷ []);
     } ∷ [];
   })
-  pub choices_alone : IsHopOf (codes "a | b") (record { first = surface.Alt (word (codes "a") ∷ word (codes "b") ∷ []); rest = [] })
+  pub choices_alone : IsHopOf (codes "a | b") (record {
+    first = surface.Alt (word (codes "a") ∷ word (codes "b") ∷ []);
+    rest = [];
+  })
   pub choices_in_brackets : IsHopOf (codes "a >x (b | c)") (record {
     first = word (codes "a");
     rest = record { path = edge (codes "x"); surface = surface.Alt (word (codes "b") ∷ word (codes "c") ∷ []) } ∷ [];

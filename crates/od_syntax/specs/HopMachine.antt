@@ -55,23 +55,26 @@ atom_of (lexeme x) = surface.step_atom x [] [] surface.top
 atom_of steps_open = Err kind.Expected
 
 -- on to steps, where they can begin here behind a hop
-abbrev pub to_steps : Result steps.State PatternKind → Option Hop → PatternKind → Result State PatternKind
+abbrev pub to_steps : Result steps.State PatternKind → Option Hop → PatternKind →
+    Result State PatternKind
 to_steps (Ok t) (Some h) k = Ok (between h t)
 to_steps q o k = Err k
 
 -- on in a surface, or from it to steps
-abbrev pub from_surface : (surface.State → State) → Result surface.State PatternKind → Told → Option Hop →
-    Result State PatternKind
+abbrev pub from_surface : (surface.State → State) → Result surface.State PatternKind → Told →
+    Option Hop → Result State PatternKind
 from_surface within (Ok t) x o = Ok (within t)
 from_surface within (Err k) x o = to_steps (steps.opened [] x) o k
 
 -- on to a surface behind a hop and steps
-abbrev pub to_surface : Hop → Path → Result surface.State PatternKind → PatternKind → Result State PatternKind
+abbrev pub to_surface : Hop → Path → Result surface.State PatternKind → PatternKind →
+    Result State PatternKind
 to_surface h p (Ok t) k = Ok (behind h p t)
 to_surface h p (Err j) k = Err k
 
 -- on in steps, or from them to a surface
-abbrev pub from_steps : Hop → Result steps.State PatternKind → Told → Option Path → Result State PatternKind
+abbrev pub from_steps : Hop → Result steps.State PatternKind → Told → Option Path →
+    Result State PatternKind
 from_steps h (Ok t) x o = Ok (between h t)
 from_steps h (Err k) x None = Err k
 from_steps h (Err k) x (Some p) = to_surface h p (atom_of x) k

@@ -20,13 +20,13 @@ hop_start = first surface_start
 
 -- the rule that a lexeme of a hop breaks
 abbrev pub hop_rule : Rule Told
-hop_rule =
-    rule_between hop_start (step may_repeat) (rule_untold bad_range) (rule_untold capture_or_own) (repeat_rule may_repeat)
+hop_rule = rule_between hop_start (step may_repeat)
+    (rule_untold bad_range) (rule_untold capture_or_own) (repeat_rule may_repeat)
 
 -- what characters that begin at a place are read as
 abbrev pub hop_at : ℕ → List ℕ → Verdict Hop
-hop_at at cs = before_stuck (stuck_at (lexed_from at cs).1)
-    (to_the_end told_apart (run told_apart (step may_always) hop_rule ended [] hop_start (told (lexed_from at cs).0)))
+hop_at at cs = before_stuck (stuck_at (lexed_from at cs).1) (to_the_end told_apart
+    (run told_apart (step may_always) hop_rule ended [] hop_start (told (lexed_from at cs).0)))
 
 -- the hop of a text, or its first fault
 abbrev pub hop_of : List ℕ → Verdict Hop
