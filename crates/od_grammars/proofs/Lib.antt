@@ -2,3 +2,4 @@
 pub mod Bodies
 pub mod Examples
 pub mod PatternFaults
+pub mod SameExpressions

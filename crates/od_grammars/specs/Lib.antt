@@ -3,3 +3,4 @@ pub mod Bodies
 pub mod Examples
 pub mod Grammars
 pub mod PatternFaults
+pub mod SameExpressions

@@ -4,6 +4,7 @@
 ghost use Rattle.od_grammars.specs.Bodies.{BodiesAreComputed, RulesAreMeant};
 ghost use Rattle.od_grammars.specs.Examples.{FileExamples, QueryExamples, FaultExamples};
 ghost use Rattle.od_grammars.specs.PatternFaults.{RuleFaultsAreMeant, QueryFaultsAreMeant};
+ghost use Rattle.od_grammars.specs.SameExpressions.{ExpressionsAreAsked};
 
 /// The text of a rule's pattern, once its variables are replaced, has exactly one value or exactly one
 /// first fault, and never both: that which grammars are read with.
@@ -24,6 +25,12 @@ pub fn rules_are_meant()
 pub fn pattern_faults_are_meant()
     ensures rules { RuleFaultsAreMeant }
     ensures queries { QueryFaultsAreMeant }
+{}
+
+/// The regular expressions of a rule are those of what it asks of a sentence, in the same order.
+#[tactic(auto, using(crate::proofs::SameExpressions::expressions_are_asked))]
+pub fn expressions_are_asked()
+    ensures { ExpressionsAreAsked }
 {}
 
 /// Worked cases.
