@@ -3,9 +3,10 @@ use Rattle.std.proofs.Common.{refl}
 use lib.Utf8.{encode}
 use denote.Hole.Carrier.{hidden}
 use Rattle.od_pattern.specs.declared.pattern.Surface.TheBlock.{hidden-the_row-Surface-0, hidden-the_row-Surface-1}
+use Rattle.od_pattern.specs.declared.path.Path.TheBlock.{hidden-the_row-Path-0, hidden-the_row-Path-1}
 use Rattle.od_language.specs.Fields.{field_named}
 use Rattle.od_language.specs.Forms.{form}
-use Rattle.od_syntax.specs.Examples.{SurfaceExamples, PathExamples, EventExamples, StepsExamples}
+use Rattle.od_syntax.specs.Examples.{SurfaceExamples, HopExamples, PathExamples, EventExamples, StepsExamples}
 
 pub surface_examples : SurfaceExamples
 unfolding form field_named encode hidden hidden-the_row-Surface-0 hidden-the_row-Surface-1
@@ -32,6 +33,34 @@ surface_examples = record {
   nullable_body = refl;
   nullable_place = refl;
   same_capture_in_choices = refl;
+}
+
+pub hop_examples : HopExamples
+unfolding form field_named encode hidden hidden-the_row-Surface-0 hidden-the_row-Surface-1 hidden-the_row-Path-0 hidden-the_row-Path-1
+hop_examples = record {
+  empty = refl;
+  steps_first = refl;
+  steps_in_a_surface = refl;
+  steps_behind_a_choice = refl;
+  choice_before_steps = refl;
+  choice_behind_steps = refl;
+  steps_last = refl;
+  bracket_of_a_surface = refl;
+  steps_in_a_constraint = refl;
+  steps_in_a_negation = refl;
+  steps_in_a_later_constraint = refl;
+  lazy_path = refl;
+  nullable_body = refl;
+  same_capture = refl;
+  character = refl;
+  too_big = refl;
+  choices_in_steps = refl;
+  steps_in_steps = refl;
+  bracket_behind_steps = refl;
+  choices_alone = refl;
+  choices_in_brackets = refl;
+  two_steps = refl;
+  plain_steps = refl;
 }
 
 pub path_examples : PathExamples

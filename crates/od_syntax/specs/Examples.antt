@@ -1,15 +1,33 @@
 -- Worked cases: texts with their first faults, and the brackets that open steps.
-use Rattle.std.specs.Prelude.{◌≡◌, ℕ, List, [], ◌∷◌, Err, codes}
+use Rattle.std.specs.Prelude.{◌≡◌, ℕ, List, [], ◌∷◌, Some, None, Ok, Err, codes}
+use Rattle.od_pattern.specs.declared.pattern.Constraint.TheVariants as constraint
+use Rattle.od_pattern.specs.declared.pattern.Field.TheVariants.{Norm, Tag}
+use Rattle.od_pattern.specs.declared.pattern.Surface.{Surface}
+use Rattle.od_pattern.specs.declared.pattern.Surface.TheVariants as surface
+use Rattle.od_pattern.specs.declared.pattern.Value.TheVariants.{Plain}
+use Rattle.od_pattern.specs.declared.path.Path.{Path}
+use Rattle.od_pattern.specs.declared.path.Path.TheVariants as path
+use Rattle.od_pattern.specs.declared.rule.Hop.{Hop}
 use Rattle.od_language.specs.declared.pattern_fault.PatternKind.{PatternKind}
 use Rattle.od_language.specs.declared.pattern_fault.PatternKind.TheVariants as kind
+use Rattle.od_language.specs.Fields.{compared_text}
 use Rattle.od_language.specs.Lexed.{lexed}
 use Rattle.od_syntax.specs.EventVerdicts.{event_of}
+use Rattle.od_syntax.specs.HopVerdicts.{hop_of}
 use Rattle.od_syntax.specs.Told.{Told, lexeme, steps_open, ToldLexeme, told}
 use Rattle.od_syntax.specs.Verdicts.{surface_of, path_at}
 
 -- a text that is no surface pattern, with the place of its first fault
 abbrev pub NoSurface : List ℕ → ℕ → PatternKind → Type 0
 NoSurface text at k = surface_of text ≡ Err (at, k)
+
+-- a text that is no hop
+abbrev pub NoHop : List ℕ → ℕ → PatternKind → Type 0
+NoHop text at k = hop_of text ≡ Err (at, k)
+
+-- a text that is a hop with this value
+abbrev pub IsHopOf : List ℕ → Hop → Type 0
+IsHopOf text h = hop_of text ≡ Ok h
 
 -- a text that is no path
 abbrev pub NoPath : List ℕ → ℕ → PatternKind → Type 0
@@ -58,6 +76,76 @@ pub record SurfaceExamples : Type 0 where
   pub nullable_body : NoSurface (codes "(a?){2,}?") 4 kind.NullableRepeat
   pub nullable_place : NoSurface (codes "^*") 1 kind.NullableRepeat
   pub same_capture_in_choices : NoSurface (codes "(?<x>a) | (?<x>b)") 10 kind.SameCapture
+
+-- a surface of one word
+abbrev pub word : List ℕ → Surface
+word text = surface.Token (constraint.Is Norm (Plain (compared_text Norm text)))
+
+-- an edge with this label, along it
+abbrev pub edge : List ℕ → Path
+edge label = path.Along (Some (Plain label))
+
+-- a token with this tag
+abbrev pub tagged : List ℕ → Path
+tagged tag = path.Filter (constraint.Is Tag (Plain tag))
+
+-- one path behind another, and either of two paths
+abbrev pub in_order : Path → Path → Path
+in_order p q = path.Seq (p ∷ q ∷ [])
+
+abbrev pub either : Path → Path → Path
+either p q = path.Alt (p ∷ q ∷ [])
+
+-- a hop of two words
+abbrev pub from_to : List ℕ → Path → List ℕ → Hop
+from_to a p b = record { first = word a; rest = record { path = p; surface = word b } ∷ [] }
+
+-- Steps stand between surfaces without choices outside brackets; no bracket in a surface or in a
+-- constraint opens steps; inside brackets of steps each bracket is a path's.
+pub record HopExamples : Type 0 where
+  pub empty : NoHop (codes "") 0 kind.Expected
+  pub steps_first : NoHop (codes "(>x) a") 0 kind.Expected
+  pub steps_in_a_surface : NoHop (codes "a (b (>x)) c") 5 kind.Expected
+  pub steps_behind_a_choice : NoHop (codes "a | (>x) b") 4 kind.Expected
+  pub choice_before_steps : NoHop (codes "a | b >x c") 6 kind.Expected
+  pub choice_behind_steps : NoHop (codes "a >x b | c") 7 kind.Expected
+  pub steps_last : NoHop (codes "a >x") 4 kind.Expected
+  pub bracket_of_a_surface : NoHop (codes "a (([tag=a] | >x) >y) b") 14 kind.Expected
+  pub steps_in_a_constraint : NoHop (codes "a [(>x)] b") 4 kind.Expected
+  pub steps_in_a_negation : NoHop (codes "[!(>x)]") 3 kind.Expected
+  pub steps_in_a_later_constraint : NoHop (codes "a >x [(>y)] b") 7 kind.Expected
+  pub lazy_path : NoHop (codes "a >x*? b") 5 kind.Expected
+  pub nullable_body : NoHop (codes "(a?)* >x b") 4 kind.NullableRepeat
+  pub same_capture : NoHop (codes "(?<x>a) >x (?<x>b)") 11 kind.SameCapture
+  pub character : NoHop (codes "a >x %") 5 kind.Lex
+  pub too_big : NoHop (codes "a (>x){1000} (b{1000}){4}") 0 kind.TooBig
+  pub choices_in_steps : IsHopOf (codes "a (>x ([tag=a] | >y)) b")
+      (from_to (codes "a") (in_order (edge (codes "x")) (either (tagged (codes "a")) (edge (codes "y")))) (codes "b"))
+  pub steps_in_steps : IsHopOf (codes "a >x (>y ([tag=a] >z)) b")
+      (from_to (codes "a")
+      (in_order (edge (codes "x")) (in_order (edge (codes "y")) (in_order (tagged (codes "a")) (edge (codes "z")))))
+      (codes "b"))
+  pub bracket_behind_steps : IsHopOf (codes "a >x ([tag=a]) b") (record {
+    first = word (codes "a");
+    rest = record {
+      path = edge (codes "x");
+      surface = surface.Seq (surface.Token (constraint.Is Tag (Plain (codes "a"))) ∷ word (codes "b") ∷ []);
+    } ∷ [];
+  })
+  pub choices_alone : IsHopOf (codes "a | b") (record {
+    first = surface.Alt (word (codes "a") ∷ word (codes "b") ∷ []);
+    rest = [];
+  })
+  pub choices_in_brackets : IsHopOf (codes "a >x (b | c)") (record {
+    first = word (codes "a");
+    rest = record { path = edge (codes "x"); surface = surface.Alt (word (codes "b") ∷ word (codes "c") ∷ []) } ∷ [];
+  })
+  pub two_steps : IsHopOf (codes "a >x b >>+ c") (record {
+    first = word (codes "a");
+    rest = record { path = edge (codes "x"); surface = word (codes "b") }
+        ∷ record { path = path.Repeat (path.Along None) 1 None; surface = word (codes "c") } ∷ [];
+  })
+  pub plain_steps : IsHopOf (codes "a >x b") (from_to (codes "a") (edge (codes "x")) (codes "b"))
 
 -- A path's quantifier has no lazy form, and a path wants no surface.
 pub record PathExamples : Type 0 where

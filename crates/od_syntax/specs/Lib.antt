@@ -2,7 +2,9 @@
 pub mod Events
 pub mod EventVerdicts
 pub mod Examples
+pub mod HopMachine
 pub mod Hops
+pub mod HopVerdicts
 pub mod OneRule
 pub mod Parts
 pub mod PathMachine

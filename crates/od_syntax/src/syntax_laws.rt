@@ -2,7 +2,8 @@
 //!
 //! A law is what a function here ensures; the function itself does nothing.
 ghost use Rattle.od_syntax.specs.EventVerdicts.{EventsAreComputed};
-ghost use Rattle.od_syntax.specs.Examples.{SurfaceExamples, PathExamples, EventExamples, StepsExamples};
+ghost use Rattle.od_syntax.specs.Examples.{SurfaceExamples, HopExamples, PathExamples, EventExamples, StepsExamples};
+ghost use Rattle.od_syntax.specs.HopVerdicts.{HopsAreComputed, HopTextsAreComputed, HopTextsHaveOneAnswer};
 ghost use Rattle.od_syntax.specs.OneRule.{OneSurfaceRule, OneHopRule};
 ghost use Rattle.od_syntax.specs.StepsAnswer.{StepsHaveOneAnswer};
 ghost use Rattle.od_syntax.specs.Verdicts.{SurfacesAreComputed, SurfaceTextsAreComputed, PathsAreComputed};
@@ -18,6 +19,13 @@ pub fn surfaces_are_computed()
 #[tactic(auto, using(crate::proofs::Verdicts::paths_are_computed))]
 pub fn paths_are_computed()
     ensures { PathsAreComputed }
+{}
+
+/// The same of hops.
+pub fn hops_are_computed()
+    ensures anywhere { HopsAreComputed }
+    ensures texts { HopTextsAreComputed }
+    ensures one_answer { HopTextsHaveOneAnswer }
 {}
 
 /// The same of event patterns.
@@ -41,6 +49,7 @@ pub fn one_rule_is_broken()
 /// Worked cases.
 pub fn cases_are_computed()
     ensures surfaces { SurfaceExamples }
+    ensures hops { HopExamples }
     ensures paths { PathExamples }
     ensures events { EventExamples }
     ensures steps { StepsExamples }

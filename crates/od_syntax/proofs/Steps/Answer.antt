@@ -11,7 +11,7 @@ use Rattle.od_syntax.specs.StepsAnswer.{StepsHaveOneAnswer}
 use Rattle.od_syntax.specs.StepsMachine.{begun, step, ended}
 use Rattle.od_syntax.proofs.Steps.Closing.{rule_at, reader}
 
-told_end : (within : Bool) → told_of within End [] ≡ lexeme End
+pub told_end : (within : Bool) → told_of within End [] ≡ lexeme End
 told_end true = refl
 told_end false = refl
 

@@ -19,7 +19,7 @@ use Rattle.od_syntax.proofs.Paths.Sound as inner_sound
 use Rattle.od_syntax.proofs.Steps.Complete.{steps_go, inner_goes, close_goes}
 use Rattle.od_syntax.proofs.Steps.Sound.{Holds, holds, word_of}
 
-abbrev Ends : State → Type 0
+abbrev pub Ends : State → Type 0
 Ends s = (r : List Told) × (t : State) × (p : Path) × (steps step s r ≡ Ok t) × (ended t ≡ Some p)
 
 untold_back : (l : List LexKind) → all_untold (as_told l) ≡ l
@@ -38,7 +38,7 @@ ends_group v q s h =
       refl,
     )
 
-ends : (w : List Told) (s : State) → Holds w s [] → Ends s
+pub ends : (w : List Told) (s : State) → Holds w s [] → Ends s
 ends w begun h = (lexeme AnyAlong ∷ [], part _ [], _, refl, refl)
 ends w (label b s) h = (lexeme (Word []) ∷ [], part _ s, _, refl, refl)
 ends w (group q s) (v, h, e) = ends_group (all_untold v) q s e
@@ -140,7 +140,7 @@ refusal_group q s x j (inl (is, n)) =
 refusal_group q s x j (inr (name, other, t, w, is, o)) =
     let v = word_some (paths.step q (Word other)) (paths.ended q) other s t o in inr (name, other, v.0, untold_word x name w, is, v.1)
 
-refusal : (s : State) (x : Told) (j : PatternKind) → step s x ≡ Err j → Refusal told_apart step s x j
+pub refusal : (s : State) (x : Told) (j : PatternKind) → step s x ≡ Err j → Refusal told_apart step s x j
 refusal begun x j e = plain_by begun x j e (plain_opened x []) (λ name other w. (kind.Expected, refl))
 refusal (label b s) x j e = plain_by (label b s) x j e (plain_labelled x b s) (λ name other w. absurd (label_word b s x name j e w))
 refusal (group q s) x j e = refusal_group q s x j (inner.refusal q (untold x) j (grouped_err (paths.step q (untold x)) x (paths.ended q) s j e))
@@ -150,7 +150,7 @@ refusal (turned s) x j e = plain_by (turned s) x j e (plain_opened x s) (λ name
 end_group : (z : Result paths.State PatternKind) (o : Option Path) (s : List Path) → z ≡ Err kind.Expected → grouped z (lexeme End) o s ≡ Err kind.Expected
 end_group z o s e = ap (λ q. grouped q (lexeme End) o s) e
 
-at_end : (s : State) → step s (lexeme End) ≡ Err kind.Expected
+pub at_end : (s : State) → step s (lexeme End) ≡ Err kind.Expected
 at_end begun = refl
 at_end (label b s) = refl
 at_end (group q s) = end_group (paths.step q End) (paths.ended q) s (inner.at_end q)

@@ -161,7 +161,7 @@ refusal (turned a s k) x j = plain_by (turned a s k) x j (plain_turned x a s k) 
 refusal (listed a k) x j = plain_by (listed a k) x j (plain_listed x a k) (never (listed a k) x j (λ t. word_whole t (any_of a) k))
 refusal (whole p k) x j = plain_by (whole p k) x j (plain_whole x p k) (never (whole p k) x j (λ t. word_whole t p k))
 
-at_end : (s : State) → step s End ≡ Err kind.Expected
+pub at_end : (s : State) → step s End ≡ Err kind.Expected
 at_end (atom a s k) = refl
 at_end (name a s k) = refl
 at_end (look v a s k) = refl

@@ -1,8 +1,11 @@
-use Rattle.od_syntax.proofs.Examples.{surface_examples, path_examples, event_examples, steps_examples}
+use Rattle.od_syntax.proofs.Examples.{surface_examples, hop_examples, path_examples, event_examples, steps_examples}
 use Rattle.od_syntax.proofs.syntax_laws.cases_are_computed.Goals as goal
 
 pub returns-clause-surfaces : goal.returns-clause-surfaces
 returns-clause-surfaces c = surface_examples
+
+pub returns-clause-hops : goal.returns-clause-hops
+returns-clause-hops c = hop_examples
 
 pub returns-clause-paths : goal.returns-clause-paths
 returns-clause-paths c = path_examples
