@@ -163,20 +163,27 @@ mod tests {
     fn finds_the_mentions_of_each_round(rt: HostRuntime) -> Result<(), Fail> {
         let alloc = rt.alloc();
         let mut known = Known::new(alloc);
+        let mut first = Hashed::new(alloc);
+        let bark = candidate(0, 1);
+        first.push(hash_candidate(bark), bark.make(alloc)?)?;
+        let again = candidate(0, 5);
+        first.push(hash_candidate(again), again.make(alloc)?)?;
+        known.extend(alloc, &[], &first)?;
         let mut rounds = List::new(alloc);
-        for round in [&[(0, 1), (0, 5)] as &[(u32, u32)], &[(2, 1)]] {
-            let mut added = Hashed::new(alloc);
-            for (document, start) in round {
-                let candidate = candidate(*document, *start);
-                added.push(hash_candidate(candidate), candidate.make(alloc)?)?;
-            }
-            known.extend(alloc, rounds.get(), &added)?;
-            let Hashed {
-                mentions,
-                hashes: _,
-            } = added;
-            rounds.push(mentions)?;
-        }
+        let Hashed {
+            mentions,
+            hashes: _,
+        } = first;
+        rounds.push(mentions)?;
+        let mut second = Hashed::new(alloc);
+        let later = candidate(2, 1);
+        second.push(hash_candidate(later), later.make(alloc)?)?;
+        known.extend(alloc, rounds.get(), &second)?;
+        let Hashed {
+            mentions,
+            hashes: _,
+        } = second;
+        rounds.push(mentions)?;
         assert!(rt; holds(&known, rounds.get(), candidate(0, 1)));
         assert!(rt; holds(&known, rounds.get(), candidate(0, 5)));
         assert!(rt; holds(&known, rounds.get(), candidate(2, 1)));
