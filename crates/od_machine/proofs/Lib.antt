@@ -1,0 +1,10 @@
+pub mod Runs
+pub mod Does
+pub mod Compiled
+pub mod Search
+pub mod Rows
+pub mod Sizes
+pub mod Names
+pub mod Marks
+pub mod Founds
+pub mod Entries

@@ -1,0 +1,12 @@
+//! Programs of surface patterns, and the machine that finds their matches.
+#![tactic(auto)]
+
+pub mod compile;
+mod instruction;
+mod machine;
+pub mod program;
+pub mod scan;
+pub mod spans;
+#[cfg(test)]
+mod tests;
+mod thread;

@@ -1,0 +1,340 @@
+//! The search for the preferred way from a place: threads in the order of their choices.
+ghost use Rattle.std.specs.Prelude.{◌≡◌, ℕ, suc, true, ◌+◌, ◌-◌, ◌*◌, ◌^◌, ◌<◌, ◌≤◌, ◌++◌, ◌∷◌, [], Bool, false, not, List as Seq, Option, length, map, reverse, take, count_by, bytes_eq, IsTrue, vec_len, IfOk, OnOk};
+ghost use Rattle.od_matching.specs.Matching.First.{Ending, accept};
+ghost use Rattle.od_matching.specs.Matching.Scan.{is_span_in};
+ghost use Rattle.od_machine.specs.Machine.{follow, targets, state, run, peeks};
+ghost use Rattle.od_machine.specs.Search.{thread, state_of, index, replay, Searching, FailFrom, events_of};
+ghost use Rattle.od_extraction.specs.declared.mention.Labelled.{Labelled as Spanned};
+ghost use Rattle.od_machine.specs.Spans.{IsIndexOf};
+ghost use Rattle.od_machine.specs.Inputs.{holds_in, given, choose_threads, TakesUp, outcome, FailBehind};
+
+use crate::instruction::Instruction;
+use crate::spans::{SpanEntry, entries_from, take_span};
+use crate::thread::{Event, Thread};
+use od_extraction::mention::Labelled;
+use od_text::list::List;
+use od_text::text::{NoMemory, Text};
+
+/// Whether the row has a truth at the token, and it is true.
+pub(crate) fn holds(rows: &[List<bool>], row: u32, at: usize) -> bool
+    ensures { result ≡ holds_in rows.now row at }
+{
+    match rows.get(row as usize) {
+        Some(truths) => match truths.get().get(at) {
+            Some(truth) => *truth,
+            None => false,
+        },
+        None => false,
+    }
+}
+
+/// Adds the states that follow, so that the first of them comes first.
+fn follow(
+    instr: &Instruction,
+    tokens: usize,
+    rows: &[List<bool>],
+    labels: &[Labelled],
+    entries: &[SpanEntry],
+    from: Thread,
+    events: usize,
+    threads: &mut Vec<Thread>,
+) -> Result<(), NoMemory>
+    requires index { IsIndexOf labels.now entries.now }
+    requires small { from.pc < 2 ^ 31 }
+    requires inside { from.at ≤ tokens }
+    requires short { tokens < 2 ^ 31 }
+    ensures stack { OnOk result (reverse threads.new.items
+        ≡ map (thread events)
+        (follow (given tokens rows.now labels.now) instr.now from.pc from.taken from.at)
+        ++ reverse threads.old.items) }
+    ensures few { OnOk result (vec_len threads.new ≤ vec_len threads.old + (tokens + 2)) }
+{
+    let Thread {
+        pc,
+        taken,
+        at,
+        events: _,
+    } = from;
+    let next = Thread {
+        pc: pc + 1,
+        taken,
+        at,
+        events,
+    };
+    match instr {
+        Instruction::Take(row) => {
+            if at < tokens && holds(rows, *row, at) {
+                threads.push(Thread {
+                    pc: pc + 1,
+                    taken: true,
+                    at: at + 1,
+                    events,
+                })?;
+            }
+        }
+        Instruction::Jump(name) => {
+            jump(name, tokens, labels, entries, pc, at, events, threads)?;
+        }
+        Instruction::Peek {
+            ahead,
+            positive,
+            row,
+        } => {
+            if peeks(tokens, rows, *row, *ahead, *positive, at) {
+                threads.push(next)?;
+            }
+        }
+        Instruction::AtFirst => {
+            if at == 0 {
+                threads.push(next)?;
+            }
+        }
+        Instruction::AtLast => {
+            if at == tokens {
+                threads.push(next)?;
+            }
+        }
+        Instruction::Split(skip) => {
+            threads.push(Thread {
+                pc: pc + 1 + *skip as usize,
+                taken,
+                at,
+                events,
+            })?;
+            threads.push(next)?;
+        }
+        Instruction::Skip(skip) => {
+            threads.push(Thread {
+                pc: pc + 1 + *skip as usize,
+                taken,
+                at,
+                events,
+            })?;
+        }
+        Instruction::Turn { lazy, skip } => {
+            let turn = Thread {
+                pc: pc + 1,
+                taken: false,
+                at,
+                events,
+            };
+            let leave = Thread {
+                pc: pc + 1 + *skip as usize,
+                taken,
+                at,
+                events,
+            };
+            choose(*lazy, turn, leave, threads)?;
+        }
+        Instruction::Turned => {
+            if taken {
+                threads.push(next)?;
+            }
+        }
+        Instruction::Again { lazy, back } => {
+            if taken {
+                let turn = Thread {
+                    pc: pc.saturating_sub(*back as usize),
+                    taken: false,
+                    at,
+                    events,
+                };
+                choose(*lazy, turn, next, threads)?;
+            }
+        }
+        Instruction::Open(_) | Instruction::Close => threads.push(next)?,
+        Instruction::Fail | Instruction::Match => {}
+    }
+    Ok(())
+}
+
+/// Another turn or none, the preferred one first.
+fn choose(
+    lazy: bool,
+    turn: Thread,
+    leave: Thread,
+    threads: &mut Vec<Thread>,
+) -> Result<(), NoMemory>
+    ensures stack { OnOk result (reverse threads.new.items
+        ≡ choose_threads lazy turn leave (reverse threads.old.items)) }
+    ensures few { OnOk result (vec_len threads.new ≡ vec_len threads.old + 2) }
+{
+    if lazy {
+        threads.push(turn)?;
+        threads.push(leave)?;
+    } else {
+        threads.push(leave)?;
+        threads.push(turn)?;
+    }
+    Ok(())
+}
+
+/// Whether a look at the token at the place, or at the one before it, passes.
+fn peeks(
+    tokens: usize,
+    rows: &[List<bool>],
+    row: u32,
+    ahead: bool,
+    positive: bool,
+    at: usize,
+) -> bool
+    requires { at ≤ tokens }
+    ensures { (labels : Seq Spanned)
+        → result ≡ peeks (given tokens rows.now labels) row ahead positive at }
+{
+    let there = if ahead {
+        at < tokens && holds(rows, row, at)
+    } else {
+        at > 0 && holds(rows, row, at - 1)
+    };
+    there == positive
+}
+
+/// Adds a thread behind each span with the label from `at`, so that the longest comes first.
+fn jump(
+    name: &Text,
+    tokens: usize,
+    labels: &[Labelled],
+    entries: &[SpanEntry],
+    pc: usize,
+    at: usize,
+    events: usize,
+    threads: &mut Vec<Thread>,
+) -> Result<(), NoMemory>
+    requires index { IsIndexOf labels.now entries.now }
+    requires small { pc < 2 ^ 31 }
+    requires inside { at ≤ tokens }
+    requires short { tokens < 2 ^ 31 }
+    ensures stack { OnOk result (reverse threads.new.items
+        ≡ map (thread events) (targets (is_span_in labels.now name.now) (pc + 1) at (tokens - at))
+        ++ reverse threads.old.items) }
+    ensures few { OnOk result (vec_len threads.new ≤ vec_len threads.old + (tokens - at)) }
+{
+    let mut reach = at;
+    let near = entries_from(entries, at);
+    for entry in near {
+        if entry.start as usize != at {
+            return Ok(());
+        }
+        reach = take_span(name, tokens, labels, *entry, reach, pc + 1, events, threads)?;
+    }
+    Ok(())
+}
+
+/// The number of a state among the marks.
+fn number(size: usize, tokens: usize, from: Thread) -> usize
+    requires code { from.pc < size }
+    requires inside { from.at ≤ tokens }
+    requires short { (tokens + 1) * size * 2 < 2 ^ 62 }
+    ensures value { result ≡ index size (state_of from) }
+    ensures within { result < (tokens + 1) * size * 2 }
+{
+    (from.at * size + from.pc) * 2 + usize::from(from.taken)
+}
+
+/// Puts on the trail what the instruction leaves there.
+fn record_event(
+    instr: &Instruction,
+    pc: usize,
+    at: usize,
+    trail: &mut Vec<Event>,
+) -> Result<(), NoMemory>
+    requires code { pc < 2 ^ 32 }
+    requires inside { at < 2 ^ 32 }
+    ensures { OnOk result (trail.new.items ≡ trail.old.items ++ events_of instr.now pc at) }
+{
+    match instr {
+        Instruction::Open(_) => trail.push(Event::Opened(pc as u32, at as u32))?,
+        Instruction::Close => trail.push(Event::Closed(at as u32))?,
+        _ => {}
+    }
+    Ok(())
+}
+
+/// Takes up the first thread. Returns whether it is at the end.
+fn visit(
+    code: &[Instruction],
+    tokens: usize,
+    rows: &[List<bool>],
+    labels: &[Labelled],
+    entries: &[SpanEntry],
+    from: Thread,
+    seen: &mut Vec<bool>,
+    trail: &mut Vec<Event>,
+    threads: &mut Vec<Thread>,
+) -> Result<bool, NoMemory>
+    requires index { IsIndexOf labels.now entries.now }
+    requires inside { from.at ≤ tokens }
+    requires short { tokens < 2 ^ 31 }
+    requires size { length code.now < 2 ^ 31 }
+    requires small { (tokens + 1) * length code.now * 2 < 2 ^ 62 }
+    requires room { (tokens + 1) * length code.now * 2 ≤ vec_len seen.old }
+    ensures searching { IfOk result (λ matched.
+        TakesUp (given tokens rows.now labels.now) code.now from matched
+        seen.old.items trail.old.items threads.old.items
+        seen.new.items trail.new.items threads.new.items) }
+    ensures room { vec_len seen.new ≡ vec_len seen.old }
+    ensures progress { OnOk result (count_by not seen.new.items * (tokens + 3) + vec_len threads.new
+        ≤ count_by not seen.old.items * (tokens + 3) + vec_len threads.old) }
+{
+    trail.truncate(from.events);
+    if from.pc >= code.len() {
+        return Ok(false);
+    }
+    let n = number(code.len(), tokens, from);
+    if seen[n] {
+        return Ok(false);
+    }
+    let instr = &code[from.pc];
+    if let Instruction::Match = instr {
+        return Ok(true);
+    }
+    seen[n] = true;
+    record_event(instr, from.pc, from.at, trail)?;
+    let events = trail.len();
+    follow(instr, tokens, rows, labels, entries, from, events, threads)?;
+    Ok(false)
+}
+
+/// The preferred way from the place, if there is one: where it ends. Its events are on the trail.
+pub(crate) fn attempt(
+    code: &[Instruction],
+    tokens: usize,
+    rows: &[List<bool>],
+    labels: &[Labelled],
+    entries: &[SpanEntry],
+    start: usize,
+    seen: &mut Vec<bool>,
+    trail: &mut Vec<Event>,
+    threads: &mut Vec<Thread>,
+) -> Result<Option<usize>, NoMemory>
+    requires index { IsIndexOf labels.now entries.now }
+    requires inside { start ≤ tokens }
+    requires short { tokens < 2 ^ 31 }
+    requires size { length code.now < 2 ^ 31 }
+    requires small { (tokens + 1) * length code.now * 2 < 2 ^ 62 }
+    requires room { (tokens + 1) * length code.now * 2 ≤ vec_len seen.old }
+    requires failed { FailFrom (given tokens rows.now labels.now) code.now start seen.old.items }
+    ensures found { IfOk result (λ end. outcome code.now trail.new.items end
+        ≡ run (given tokens rows.now labels.now) code.now (state 0 false start)) }
+    ensures failed { IfOk result (λ end.
+        FailBehind (given tokens rows.now labels.now) code.now start end seen.new.items) }
+    ensures room { vec_len seen.new ≡ vec_len seen.old }
+{
+    trail.clear();
+    threads.clear();
+    threads.push(Thread {
+        pc: 0,
+        taken: false,
+        at: start,
+        events: 0,
+    })?;
+    'search: while let Some(from) = threads.pop() {
+        if visit(
+            code, tokens, rows, labels, entries, from, seen, trail, threads,
+        )? {
+            return Ok(Some(from.at));
+        }
+    }
+    Ok(None)
+}
