@@ -1,4 +1,3 @@
 -- The lemmas of this crate.
 pub mod Histories
 pub mod Objects
-pub mod Runnable

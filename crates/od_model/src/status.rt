@@ -1,4 +1,5 @@
 //! How a call of the program ends.
+use od_order::script_kind::ScriptKind;
 use od_text::text::Text;
 
 /// How a call of the program ends, each way with its exit status.
@@ -10,8 +11,8 @@ pub enum Status {
     Refused,
     /// 2: the words are not those of the program.
     Usage,
-    /// 3: the input is no script.
-    NoScript,
+    /// 3: the input is no script: its first fault, with its line, numbered from 1; 0 where it is too long.
+    NoScript { line: u32, kind: ScriptKind },
     /// 4: the script's first grammar that is not accepted, by its name.
     BadGrammar { name: Text },
     /// 7: a read failed.

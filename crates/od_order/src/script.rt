@@ -13,11 +13,14 @@ pub const NAME_BYTES: usize = 64;
 /// The most digits of a number.
 pub const NUMBER_DIGITS: usize = 9;
 
+/// The most grammars that a script may have.
+pub const HEADS: usize = 16;
+
 /// The most clients that a script may have.
 pub const CLIENTS: usize = 8;
 
-/// The most orders that a client may have.
-pub const CLIENT_ORDERS: usize = 10_000;
+/// The most orders that a script may have, those of all clients together.
+pub const ORDERS: usize = 10_000;
 
 /// What a script asks of a client: one command, or steps of a session up to the first answer that ends them.
 #[derive(Debug, Drop)]

@@ -6,7 +6,6 @@ use Rattle.od_command.specs.declared.history.Reply.TheVariants.{Refused}
 use Rattle.od_command.specs.declared.history.Entry.{Entry}
 use Rattle.od_order.specs.declared.script.Order.{Order}
 use Rattle.od_order.specs.declared.script.Script.{Script}
-use Rattle.od_order.specs.declared.script.TheConstants.{CLIENTS, CLIENT_ORDERS}
 use Rattle.od_session.specs.declared.object.OneThread.{OneThread}
 use Rattle.od_text.specs.Lists.{Each}
 use Rattle.od_session.specs.Parts.{IsAccepted}
@@ -14,11 +13,6 @@ use Rattle.od_model.specs.Object.Sound.{IsSound}
 use Rattle.od_model.specs.History.Legal.{Legal, mine}
 use Rattle.od_model.specs.History.Orders.{Begins}
 use Rattle.od_model.specs.History.Prints.{PrintsRounds}
-
--- the clients of the script are few, and so are the orders of each
-pub record IsRunnable (script : Script) : Type 0 where
-  pub few : length script.clients ≤ CLIENTS
-  pub short : Each (λ (orders : List Order). length orders ≤ CLIENT_ORDERS) script.clients
 
 -- each client's entries unfold its orders so; the first client is caller 1
 abbrev pub EachClient : (List Order → List Entry → Type 0) → List (List Order) → List Entry → Type 0

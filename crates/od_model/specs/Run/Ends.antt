@@ -10,19 +10,19 @@ abbrev pub Answered : Status → Type 0
 Answered Done = Unit {0}
 Answered Refused = Unit {0}
 Answered Usage = ⊥
-Answered NoScript = ⊥
+Answered (NoScript line kind) = ⊥
 Answered (BadGrammar name) = ⊥
 Answered ReadFault = ⊥
 Answered WriteFault = ⊥
 Answered NoMemory = ⊥
 
 -- how it may end where no read and no write failed, for the bytes that the source had: every command was answered,
--- the bytes are no script, one of its grammars is not accepted, or memory was refused
+-- the bytes are no script, and this is their first fault, one of its grammars is not accepted, or memory was refused
 abbrev pub CanEndSo : Option (List ℕ) → Status → Type 0
 CanEndSo left Done = Unit {0}
 CanEndSo left Refused = Unit {0}
 CanEndSo left Usage = ⊥
-CanEndSo left NoScript = IsNoScript left
+CanEndSo left (NoScript line kind) = IsNoScript left line kind
 CanEndSo left (BadGrammar name) = HasBadGrammar name left
 CanEndSo left ReadFault = ⊥
 CanEndSo left WriteFault = ⊥

@@ -1,10 +1,11 @@
 -- What a run leaves: one legal history, its lines and its mentions. The start is the object that the history goes on from.
-use Rattle.std.specs.Prelude.{◌≡◌, ◌⊎◌, ℕ, ◌<◌, List, [], ◌∷◌, ◌++◌, length, Option, Some, None, Bool, true, false}
+use Rattle.std.specs.Prelude.{◌≡◌, ◌⊎◌, ℕ, ◌<◌, List, [], ◌∷◌, ◌++◌, length, Option, Some, Ok, Err, Bool, true, false}
 use Rattle.std.specs.Option.{IfSome}
 use Rattle.std.specs.Io.KnownBytes.{Appends}
 use Rattle.od_pattern.specs.declared.grammar.Head.{Head}
 use Rattle.od_command.specs.declared.history.Entry.{Entry}
 use Rattle.od_order.specs.declared.script.Script.{Script}
+use Rattle.od_order.specs.declared.script_kind.ScriptKind.{ScriptKind}
 use Rattle.od_session.specs.declared.object.OneThread.{OneThread}
 use Rattle.od_model.specs.declared.status.Status.{Status}
 use Rattle.od_model.specs.declared.status.Status.TheVariants.{Done, Refused, Usage, NoScript, BadGrammar, ReadFault, WriteFault, NoMemory}
@@ -12,7 +13,7 @@ use Rattle.od_session.specs.Parts.{first_refused}
 use Rattle.od_model.specs.History.Legal.{state_after}
 use Rattle.od_model.specs.History.Lines.{entry_lines, Lines}
 use Rattle.od_model.specs.History.Orders.{Follows}
-use Rattle.od_order.specs.Thin.{script_of}
+use Rattle.od_order.specs.Scripts.{script_of}
 use Rattle.od_model.specs.Run.Clients.{EachClient, IsHistoryOf, has_refusal}
 
 -- the bytes outside a run, where they are told
@@ -29,12 +30,12 @@ pub record Outside : Type 0 where
 -- the bytes that a source had are this script, where it tells them
 pub record IsScriptOf (left : Option (List ℕ)) (script : Script) : Type 0 where
   pub bytes : List ℕ
-  pub reads : script_of bytes ≡ Some script
+  pub reads : script_of bytes ≡ Ok script
   pub told : IfSome left (λ known. bytes ≡ known)
 
--- the bytes that a source had are no script, where it tells them
-abbrev pub IsNoScript : Option (List ℕ) → Type 0
-IsNoScript left = IfSome left (λ known. script_of known ≡ None)
+-- the bytes that a source had are no script, and this is their first fault, where it tells them
+abbrev pub IsNoScript : Option (List ℕ) → ℕ → ScriptKind → Type 0
+IsNoScript left line kind = IfSome left (λ known. script_of known ≡ Err (line, kind))
 
 -- the bytes that a source had are a script, and the first of its grammars that is not accepted has this name
 pub record HasBadGrammar (name : List ℕ) (left : Option (List ℕ)) : Type 0 where
@@ -96,7 +97,7 @@ abbrev pub Outcome : OneThread → Status → List Entry → Outside → Type 0
 Outcome start Done history outside = IsAnswered false start history outside
 Outcome start Refused history outside = IsAnswered true start history outside
 Outcome start Usage history outside = DidNothing history outside
-Outcome start NoScript history outside = DidNothing history outside × IsNoScript outside.left
+Outcome start (NoScript line kind) history outside = DidNothing history outside × IsNoScript outside.left line kind
 Outcome start (BadGrammar name) history outside = DidNothing history outside × HasBadGrammar name outside.left
 Outcome start ReadFault history outside = DidNothing history outside
 Outcome start WriteFault history outside = IsCutOff start history outside

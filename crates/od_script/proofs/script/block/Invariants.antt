@@ -1,5 +1,0 @@
-use Rattle.od_script.specs.Scripts.{Passed}
-use Rattle.od_script.proofs.script.block.Given as goal
-
-abbrev pub invariant-loop-line : goal.invariant-loop-line
-invariant-loop-line l = Passed l.fn.bytes l.rest l._line
