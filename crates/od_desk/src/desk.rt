@@ -6,11 +6,10 @@ use crate::shown::entry_lines;
 use od_command::history::{Command, Entry, Reply};
 use od_extraction::phase::Phase;
 use od_io::{Sink, write_whole};
-use od_pattern::grammar::Head;
-use od_text::list::List;
 use od_text::text::NoMemory;
 use od_workspace::workspace::Workspace;
 use od_workspace::workspace::change::Answer;
+use od_workspace::workspace::heads::Heads;
 use std::alloc::{AllocError, Global};
 use std::marker::Model;
 use std::snapshot::Snapshot;
@@ -50,7 +49,7 @@ impl From<AllocError> for Stop {
 #[derive(Drop)]
 pub struct Desk<W: Sink> {
     /// The grammars that `open` may name.
-    heads: List<Head>,
+    heads: Heads,
     workspace: Workspace,
     history: Vec<Entry>,
     sink: W,
@@ -106,7 +105,7 @@ impl<W: Sink> Desk<W> {
     ghost use Rattle.od_desk.specs.Further.{OneMore, AtMostOne, Climbs};
 
     /// A desk with no document and no session.
-    pub fn new(alloc: Global, heads: List<Head>, sink: W) -> Desk<W>
+    pub fn new(alloc: Global, heads: Heads, sink: W) -> Desk<W>
         requires accepted { Each IsAccepted heads }
         ensures { result ≡ opened_desk (record {
           heads = heads;
@@ -153,9 +152,7 @@ impl<W: Sink> Desk<W> {
         ensures kept { IsErrOf result Stop.NoMemory → self.new.history ≡ self.old.history }
         ensures cut { self.new.cut ≡ is_cut result }
     {
-        let answer = self
-            .workspace
-            .answer(alloc, self.heads.get(), caller, &command)?;
+        let answer = self.workspace.answer(alloc, &self.heads, caller, &command)?;
         let Answer { reply, change } = answer;
         let goes = goes_on(&reply);
         let entry = Entry {

@@ -1,8 +1,11 @@
 -- One client more.
 use Rattle.std.proofs.Common.{◌≡◌, ℕ, zero, suc, ◌+◌, ◌<◌, ◌≤◌, List, [], ◌∷◌, ◌++◌, length, take, drop, get_or, Bool, true, false, ◌&&◌, IsTrue, refl, sym, ap, ap₂, ◌∙◌, subst, arith, length-append}
 use Rattle.std.proofs.lemmas.List.{take_more, take-append-drop}
+use Rattle.std.proofs.lemmas.List.Sums.{get_or-le-sum_by}
 use Rattle.od_command.specs.declared.history.Entry.{Entry}
 use Rattle.od_order.specs.declared.script.Order.{Order}
+use Rattle.od_order.specs.declared.script.TheConstants.{ORDERS}
+use Rattle.od_order.specs.Scripts.{order_count}
 use Rattle.od_text.specs.Lists.{Each}
 use Rattle.od_model.specs.History.Legal.{mine}
 use Rattle.od_model.specs.History.Orders.{Begins}
@@ -66,11 +69,12 @@ both-true false b h = absurd (cc)
 
 -- ## Places in a list that a loop goes through
 
--- what holds of each element holds of the one at a place
-pub each-place : {X : Type 0} (P : X → Type 0) (xs : List X) (k : ℕ) (x : X) → k < length xs → x ≡ get_or xs k x → Each P xs → P x
-each-place P [] k x h is each = absurd (omega (arith, h))
-each-place P (y ∷ xs) zero x h is each = subst P (sym is) each.0
-each-place P (y ∷ xs) (suc k) x h is each = each-place P xs k x (omega (arith, h)) is each.1
+-- a client has no more orders than all clients together may have
+pub orders-few : (clients : List (List Order)) (k : ℕ) (orders : List Order) → k < length clients → orders ≡ get_or clients k orders → order_count clients ≤ ORDERS → length orders ≤ ORDERS
+orders-few clients k orders within is few =
+    let one = get_or-le-sum_by (λ (os : List Order). length os) clients k orders within in
+    let same : length orders ≡ length (get_or clients k orders) = ap (λ (os : List Order). length os) is in
+    omega (arith, one, same, few)
 
 -- the elements so far, the next one, and those behind it
 pub split_at : {X : Type 0} (all done : List X) (x : X) → length done < length all → done ≡ take (length done) all → x ≡ get_or all (length done) x → all ≡ (done ++ x ∷ []) ++ drop (length done + 1) all

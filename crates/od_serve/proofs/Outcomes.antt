@@ -5,6 +5,8 @@ use Rattle.std.specs.Option.{IfSome}
 use Rattle.od_command.specs.declared.history.Entry.{Entry}
 use Rattle.od_order.specs.declared.script.Script.{Script}
 use Rattle.od_order.specs.declared.script.TheConstants.{SCRIPT_BYTES}
+use Rattle.od_order.specs.declared.script_kind.ScriptKind.{ScriptKind}
+use Rattle.od_order.specs.declared.script_kind.ScriptKind.TheVariants.{TooLong}
 use Rattle.od_io.specs.declared.streams.Failed.{Failed}
 use Rattle.od_model.specs.declared.status.Status.{Status}
 use Rattle.od_model.specs.declared.status.Status.TheVariants.{NoScript, BadGrammar, ReadFault, NoMemory}
@@ -14,7 +16,8 @@ use Rattle.od_model.specs.Run.Clients.{EachClient, OfClients, IsHistoryOf, has_r
 use Rattle.od_model.specs.Run.Ends.{CanEndSo}
 use Rattle.od_model.specs.Run.Outcome.{Outcome, Outside, DidNothing, IsNoScript, IsScriptOf, IsWritten, IsCutShort}
 use Rattle.od_model.proofs.Histories.Prints.{prints-rounds}
-use Rattle.od_order.specs.Thin.{script_of, script_in, parts_of}
+use Rattle.od_order.specs.Scripts.{nothing_said, script_lines, script_after, script_of}
+use Rattle.od_order.specs.Lines.{whole_lines}
 use Rattle.od_desk.specs.Desks.{Taken, Origin, DeskState, AreLines, IsDesk}
 use Rattle.od_serve.specs.Running.Ends.{RunOutcome, NeverBegan, run_status}
 
@@ -57,20 +60,25 @@ module _ (script : Script) (d : DeskState) (left : Option (List ℕ)) (is : IsSc
 
 -- a run that never began says nothing but why
 pub unrun : (status : Status) (left now : Option (List ℕ)) → NeverBegan left status → RunOutcome status [] (record { left = left; before = now; now = now })
-unrun NoScript left now h = (record { none = refl; same = refl }, h)
+unrun (NoScript line kind) left now h = (record { none = refl; same = refl }, h)
 unrun (BadGrammar name) left now h = (record { none = refl; same = refl }, h)
 unrun ReadFault left now h = record { none = refl; same = refl }
 unrun NoMemory left now h = inl (record { none = refl; same = refl })
 unrun status left now h = absurd h
 
 -- too many bytes are no script
-long-no-script : (bytes : List ℕ) → SCRIPT_BYTES < length bytes → script_of bytes ≡ None
+long-no-script : (bytes : List ℕ) → SCRIPT_BYTES < length bytes → script_of bytes ≡ Err (0, TooLong)
 unfolding script_of
-long-no-script bytes h = ap (λ b. if b then None else script_in (parts_of bytes)) (lt-ltb SCRIPT_BYTES (length bytes) h)
+long-no-script bytes h = ap (λ b. if b then Err (0, TooLong) else script_after nothing_said (script_lines 1 0 (whole_lines bytes))) (lt-ltb SCRIPT_BYTES (length bytes) h)
 
-pub long-is-no-script : (left : Option (List ℕ)) → IfSome left (λ known. SCRIPT_BYTES < length known) → IsNoScript left
+pub long-is-no-script : (left : Option (List ℕ)) → IfSome left (λ known. SCRIPT_BYTES < length known) → IsNoScript left 0 TooLong
 long-is-no-script None h = tt
 long-is-no-script (Some known) h = long-no-script known h
+
+-- the first fault of the bytes that were read
+pub first-fault : (left : Option (List ℕ)) (bytes : List ℕ) (line : ℕ) (kind : ScriptKind) → script_of bytes ≡ Err (line, kind) → IfSome left (λ known. bytes ≡ known) → IsNoScript left line kind
+first-fault None bytes line kind is told = tt
+first-fault (Some known) bytes line kind is told = subst (λ b. script_of b ≡ Err (line, kind)) told is
 
 -- what follows for each value follows for the one of a result
 pub ok-weaker : {X E : Type 0} (result : Result X E) (P Q : X → Type 0) → ((x : X) → P x → Q x) → IfOk result P → IfOk result Q

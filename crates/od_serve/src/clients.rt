@@ -1,8 +1,7 @@
 //! The clients of a script, run one after another.
-ghost use Rattle.std.specs.Prelude.{◌≡◌, ◌≤◌, List as Seq, [], length, false, is_err, IfOk, IsTrue};
-ghost use Rattle.od_order.specs.declared.script.Order.{Order as SpecOrder};
-ghost use Rattle.od_order.specs.declared.script.TheConstants.{CLIENTS, CLIENT_ORDERS};
-ghost use Rattle.od_text.specs.Lists.{Each};
+ghost use Rattle.std.specs.Prelude.{◌≡◌, ◌≤◌, [], length, false, is_err, IfOk, IsTrue};
+ghost use Rattle.od_order.specs.declared.script.TheConstants.{CLIENTS, ORDERS};
+ghost use Rattle.od_order.specs.Scripts.{order_count};
 ghost use Rattle.od_model.specs.History.Legal.{mine};
 ghost use Rattle.od_model.specs.History.Orders.{Follows, Begins};
 ghost use Rattle.od_model.specs.Run.Clients.{EachClient, OfClients};
@@ -26,7 +25,7 @@ fn run_as_far<W: Sink>(
 ) -> Result<bool, Failed>
     requires whole { desk.old.cut ≡ false }
     requires fresh { mine caller desk.old.history ≡ [] }
-    requires few { length orders ≤ CLIENT_ORDERS }
+    requires few { length orders ≤ ORDERS }
     ensures went { WentFar caller orders result desk.old desk.new }
     ensures alone { Alone caller desk.old.history desk.new.history }
 {
@@ -47,7 +46,7 @@ pub fn run_clients<W: Sink>(
     requires whole { desk.old.cut ≡ false }
     requires empty { desk.old.history ≡ [] }
     requires few { length clients ≤ CLIENTS }
-    requires short { Each (λ (orders : Seq SpecOrder). length orders ≤ CLIENT_ORDERS) clients }
+    requires short { order_count clients ≤ ORDERS }
     ensures origin { desk.new.origin ≡ desk.old.origin }
     ensures callers { OfClients clients desk.new.history }
     ensures follows { IfOk result (λ whole. IsTrue whole

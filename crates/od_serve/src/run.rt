@@ -2,7 +2,7 @@
 ghost use Rattle.std.specs.Prelude.{◌≡◌, ◌+◌, ◌^◌, ◌<◌, ◌≤◌, [], ◌∷◌, length, false, IfOk};
 ghost use Rattle.od_model.specs.History.Legal.{mine};
 ghost use Rattle.od_order.specs.declared.script.Order.TheVariants.{Run};
-ghost use Rattle.od_order.specs.declared.script.TheConstants.{CLIENT_ORDERS};
+ghost use Rattle.od_order.specs.declared.script.TheConstants.{ORDERS};
 ghost use Rattle.od_session.specs.declared.object.TheConstants.{SESSION_ROUNDS};
 ghost use Rattle.od_desk.specs.Further.{Alone};
 ghost use Rattle.od_serve.specs.Running.Went.{Went, IsNextCall};
@@ -75,7 +75,7 @@ pub fn run_client<W: Sink>(
 ) -> Result<(), Stop>
     requires whole { desk.old.cut ≡ false }
     requires fresh { mine caller desk.old.history ≡ [] }
-    requires few { length orders ≤ CLIENT_ORDERS }
+    requires few { length orders ≤ ORDERS }
     ensures went { Went caller orders result desk.old desk.new }
     ensures alone { Alone caller desk.old.history desk.new.history }
 {

@@ -4,7 +4,8 @@ ghost use Rattle.std.specs.Io.KnownBytes.{IsAtEnd};
 ghost use Rattle.od_io.specs.Streams.Count.{Rose};
 ghost use Rattle.od_pattern.specs.declared.grammar.Head.{Head as SpecHead};
 ghost use Rattle.od_session.specs.Parts.{first_refused};
-ghost use Rattle.od_model.specs.Run.Clients.{IsRunnable, has_refusal};
+ghost use Rattle.od_order.specs.Laws.{IsFew};
+ghost use Rattle.od_model.specs.Run.Clients.{has_refusal};
 ghost use Rattle.od_model.specs.Run.Ends.{Answered, CanEndSo, HasStatus};
 ghost use Rattle.od_model.specs.Run.Outcome.{IsScriptOf};
 ghost use Rattle.od_model.specs.Run.Words.{is_serve};
@@ -17,10 +18,11 @@ use od_desk::desk::Desk;
 use od_io::{Failed, ReadAll, Sink, Source, read_all};
 use od_model::status::Status;
 use od_order::script::{SCRIPT_BYTES, Script};
+use od_order::script_kind::ScriptKind;
 use od_pattern::grammar::Head;
 use od_script::{ScriptFault, read_script};
 use od_text::text::{Copied, NoMemory, Text};
-use od_workspace::workspace::heads::first_refused;
+use od_workspace::workspace::heads::{Heads, first_refused};
 use std::alloc::Global;
 
 #[cfg(test)]
@@ -89,7 +91,7 @@ fn run_status(followed: Result<bool, Failed>, history: &[Entry]) -> Status
 
 /// Runs a script's clients one after another, over no document and no session.
 fn run_script<W: Sink>(alloc: Global, script: Script, sink: W) -> Run<W>
-    requires runnable { IsRunnable script }
+    requires few { IsFew script }
     requires accepted { first_refused script.heads ≡ None }
     ensures outcome { (left : Option (Seq ℕ)) → IsScriptOf left script
         → RunOutcome result.status result.history.items
@@ -100,6 +102,13 @@ fn run_script<W: Sink>(alloc: Global, script: Script, sink: W) -> Run<W>
     ensures later { W.faults sink ≤ W.faults result.sink }
 {
     let Script { heads, clients } = script;
+    let Ok(heads) = Heads::new(alloc, heads) else {
+        return Run {
+            status: Status::NoMemory,
+            history: Vec::new(alloc),
+            sink,
+        };
+    };
     let mut desk = Desk::new(alloc, heads, sink);
     let followed = run_clients(alloc, &mut desk, clients);
     let (history, sink) = desk.close();
@@ -138,7 +147,7 @@ fn accept(alloc: Global, script: Script) -> Result<Script, Status>
 /// Reads the source to its end, and the script in its bytes, which are given back.
 fn read_source<S: Source>(alloc: Global, source: &mut S) -> Result<Script, Status>
     ensures script { IfOk result (IsScriptOf (S.left source.old)) }
-    ensures runnable { IfOk result IsRunnable }
+    ensures few { IfOk result IsFew }
     ensures accepted { IfOk result (λ script. first_refused script.heads ≡ None) }
     ensures end { IfOk result (λ _. IsAtEnd (S.left source.new)) }
     ensures fault { IfErr result (NeverBegan (S.left source.old)) }
@@ -149,12 +158,17 @@ fn read_source<S: Source>(alloc: Global, source: &mut S) -> Result<Script, Statu
     let bytes = match read_all(alloc, source, SCRIPT_BYTES) {
         Ok(bytes) => bytes,
         Err(ReadAll::Failed) => return Err(Status::ReadFault),
-        Err(ReadAll::TooLong) => return Err(Status::NoScript),
+        Err(ReadAll::TooLong) => {
+            return Err(Status::NoScript {
+                line: 0,
+                kind: ScriptKind::TooLong,
+            });
+        }
         Err(ReadAll::NoMemory) => return Err(Status::NoMemory),
     };
     match read_script(alloc, bytes.get()) {
         Ok(script) => accept(alloc, script),
-        Err(ScriptFault::Later) => Err(Status::NoScript),
+        Err(ScriptFault::Bad { line, kind }) => Err(Status::NoScript { line, kind }),
         Err(ScriptFault::NoMemory) => Err(Status::NoMemory),
     }
 }

@@ -2,6 +2,5 @@ pub mod Added
 pub mod Answers
 pub mod Changes
 pub mod Heads
-pub mod Names
 pub mod Places
 pub mod Steps

@@ -1,5 +1,5 @@
 pub mod Changes
+pub mod Heads
 pub mod Kept
-pub mod Names
 pub mod Sessions
 pub mod Steps

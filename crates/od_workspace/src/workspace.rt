@@ -1,15 +1,14 @@
 //! The one-thread object as it runs.
 ghost use Rattle.std.specs.Prelude.{◌≡◌};
 
-use crate::names::Names;
 use change::{Answer, Change};
-use heads::{head_of, is_known};
+use heads::Heads;
 use od_command::history::{Command, Refusal, Reply};
 use od_conllu::{ReadDocFault, read_doc};
 use od_document::conllu::ConlluFault;
 use od_document::doc::Doc;
 use od_extraction::mention::Mention;
-use od_pattern::grammar::Head;
+use od_names::names::Names;
 use od_rounds::hashed::Hashed;
 use od_session::object::{ALL_BYTES, ALL_DOCUMENTS, SESSION_ROUNDS, SESSIONS};
 use od_text::list::List;
@@ -81,7 +80,7 @@ impl Workspace {
     pub fn answer(
         &self,
         alloc: Global,
-        heads: &[Head],
+        heads: &Heads,
         caller: u32,
         command: &Command,
     ) -> Result<Answer, NoMemory>
@@ -202,7 +201,7 @@ impl Workspace {
     }
 
     /// The caller holds the session afterwards, where nobody held it and its grammar is one of the script's.
-    fn answer_resume(&self, heads: &[Head], caller: u32, name: &Text) -> Answer
+    fn answer_resume(&self, heads: &Heads, caller: u32, name: &Text) -> Answer
         ensures { IsAnswer heads.now self.now caller (Command.Resume name.now) result }
     {
         let Some(place) = self.place(name) else {
@@ -212,7 +211,7 @@ impl Workspace {
         if let Some(owner) = session.state().holder {
             return Answer::refused(Refusal::Busy { owner });
         }
-        if !is_known(heads, session.state()) {
+        if !heads.is_known(session.state()) {
             return Answer::refused(Refusal::NoGrammar);
         }
         Answer {
@@ -305,7 +304,7 @@ impl Workspace {
     fn answer_open(
         &self,
         alloc: Global,
-        heads: &[Head],
+        heads: &Heads,
         caller: u32,
         name: &Text,
         grammar: &Text,
@@ -315,7 +314,7 @@ impl Workspace {
         ensures { IfOk result (IsAnswer heads.now self.now caller
             (Command.OpenSession name.now grammar.now limit)) }
     {
-        let Some(head) = head_of(heads, grammar) else {
+        let Some(head) = heads.head_of(grammar) else {
             return Ok(Answer::refused(Refusal::NoGrammar));
         };
         if limit < 1 || SESSION_ROUNDS < limit {

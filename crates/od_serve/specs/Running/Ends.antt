@@ -20,7 +20,7 @@ abbrev pub NeverBegan : Option (List ℕ) → Status → Type 0
 NeverBegan left Done = ⊥
 NeverBegan left Refused = ⊥
 NeverBegan left Usage = ⊥
-NeverBegan left NoScript = IsNoScript left
+NeverBegan left (NoScript line kind) = IsNoScript left line kind
 NeverBegan left (BadGrammar name) = HasBadGrammar name left
 NeverBegan left ReadFault = Unit {0}
 NeverBegan left WriteFault = ⊥

@@ -1,16 +1,7 @@
-//! The top call over sources and sinks in memory, and scripts of several clients, which no input asks for yet.
-ghost use Rattle.std.specs.Prelude.{◌≤◌, length, IfOk};
-ghost use Rattle.od_order.specs.declared.script.TheConstants.{CLIENT_ORDERS};
-ghost use Rattle.od_model.specs.Run.Clients.{IsRunnable};
-
-use super::{Ended, Run, accept, exit_status, odinson, run_script, warn};
-use crate::examples::{Ask, DOGS, command, head};
+//! The top call over sources and sinks in memory.
+use super::{Ended, odinson};
 use od_io::{MemSink, MemSource};
-use od_model::status::Status;
-use od_order::script::{Order, Script};
-use od_pattern::grammar::{GrammarKind, Head};
-use od_text::list::List;
-use od_text::text::{Bytes, NoMemory, Text};
+use od_text::text::{Bytes, NoMemory};
 use std::alloc::{AllocError, Global};
 use std::test::Fail;
 
@@ -22,16 +13,7 @@ const EXAMPLE: &[u8] =
 const LINES: &[u8] =
     b"{\"call\":1,\"caller\":1,\"command\":\"doc\",\"documents\":1,\"name\":\"d1\",\"reply\":\"ok\"}\n{\"call\":2,\"caller\":1,\"command\":\"open\",\"documents\":1,\"limit\":5,\"name\":\"s\",\"reply\":\"ok\"}\n{\"added\":1,\"call\":3,\"caller\":1,\"command\":\"step\",\"name\":\"s\",\"reply\":\"ok\",\"round\":1,\"state\":\"going\"}\n{\"added\":0,\"call\":4,\"caller\":1,\"command\":\"step\",\"name\":\"s\",\"reply\":\"ok\",\"round\":2,\"state\":\"finished\"}\n{\"arguments\":[],\"document\":\"d1\",\"end\":3,\"label\":\"Query\",\"rule\":\"query\",\"sentence\":0,\"session\":\"s\",\"start\":1,\"text\":\"Dogs bark\"}\n{\"call\":5,\"caller\":1,\"command\":\"print\",\"mentions\":1,\"name\":\"s\",\"reply\":\"ok\",\"round\":2,\"state\":\"finished\"}\n";
 
-const COMMENT: &[u8] = b"query q dogs bark\nclient\ndoc d1 1\n# x\nopen s q 5\nrun s\nprint s\n";
-
-const COMMENT_LINES: &[u8] =
-    b"{\"call\":1,\"caller\":1,\"command\":\"doc\",\"kind\":\"Empty\",\"line\":1,\"name\":\"d1\",\"reply\":\"BadDoc\"}\n{\"call\":2,\"caller\":1,\"command\":\"open\",\"documents\":0,\"limit\":5,\"name\":\"s\",\"reply\":\"ok\"}\n{\"added\":0,\"call\":3,\"caller\":1,\"command\":\"step\",\"name\":\"s\",\"reply\":\"ok\",\"round\":1,\"state\":\"finished\"}\n{\"call\":4,\"caller\":1,\"command\":\"print\",\"mentions\":0,\"name\":\"s\",\"reply\":\"ok\",\"round\":1,\"state\":\"finished\"}\n";
-
 const USAGE: &[u8] = b"odinson: usage: see help\n";
-
-const NO_SCRIPT: &[u8] = b"odinson: script line 0: Later\n";
-
-const NAMED: &[u8] = b"odinson: grammar rules: Later\n";
 
 const READ_FAULT: &[u8] = b"odinson: read fault\n";
 
@@ -102,23 +84,6 @@ fn other_words_are_refused(rt: HostRuntime) {
 }
 
 #[test]
-fn no_input_is_no_script(rt: HostRuntime) {
-    let given = serving(rt.alloc(), b"").expect(&rt, "memory");
-    let ended = run(rt.alloc(), &given).expect(&rt, "memory");
-    assert_eq!(rt; ended.status, 3);
-    assert!(rt; ended.history.is_empty());
-    assert!(rt; ended.diag.written() == NO_SCRIPT);
-}
-
-#[test]
-fn a_client_goes_on_after_a_refused_document(rt: HostRuntime) {
-    let given = serving(rt.alloc(), COMMENT).expect(&rt, "memory");
-    let ended = run(rt.alloc(), &given).expect(&rt, "memory");
-    assert_eq!(rt; ended.status, 1);
-    assert!(rt; ended.sink.written() == COMMENT_LINES);
-}
-
-#[test]
 fn a_sink_of_two_lines_and_more_takes_a_part_of_the_third(rt: HostRuntime) {
     let mut given = serving(rt.alloc(), EXAMPLE).expect(&rt, "memory");
     given.room = 164;
@@ -161,96 +126,189 @@ fn a_diagnostic_that_cannot_be_written_changes_no_status(rt: HostRuntime) {
     assert!(rt; ended.diag.written() == &USAGE[..7]);
 }
 
-/// What a script asks of a client: one command, or steps of the session `s` up to the first answer that ends them.
-#[derive(Clone, Copy, Debug)]
-enum Asked {
-    One(Ask),
-    Run,
+/// A run of `serve` over a script, with ample room.
+fn served(alloc: Global, script: &[u8]) -> Result<Ends, NoMemory> {
+    let mut words = Vec::new(alloc);
+    words.push(String::from_str(alloc, "serve")?)?;
+    let source = MemSource::new(Bytes::from_slice(alloc, script)?, Vec::new(alloc));
+    let sink = MemSink::new(alloc, 10000)?;
+    let diag = MemSink::new(alloc, 1000)?;
+    Ok(odinson(alloc, words.as_slice(), source, sink, diag))
 }
 
-fn orders(alloc: Global, asks: &[Asked]) -> Result<List<Order>, NoMemory>
-    requires { length asks.now ≤ CLIENT_ORDERS }
-    ensures { IfOk result (λ orders. length orders ≤ CLIENT_ORDERS) }
-{
-    let mut orders = List::new(alloc);
-    for asked in asks {
-        orders.push(match *asked {
-            Asked::One(ask) => Order::One(command(alloc, ask)?),
-            Asked::Run => Order::Run(Text::from_str(alloc, "s")?),
-        })?;
+/// A script, its exit status, what is written of its answers, and its diagnostic.
+#[derive(Clone, Copy)]
+struct Case {
+    script: &'static [u8],
+    status: u8,
+    lines: &'static [u8],
+    said: &'static [u8],
+}
+
+/// A script that is refused.
+fn faulty(script: &'static [u8], said: &'static [u8]) -> Case {
+    Case {
+        script,
+        status: 3,
+        lines: b"",
+        said,
     }
-    Ok(orders)
 }
 
-/// A client that leaves its session after the first round, and one that first runs the session without holding it.
-fn two_clients(alloc: Global) -> Result<Script, NoMemory>
-    ensures { IfOk result IsRunnable }
-{
-    let first = [
-        Asked::One(Ask::Add(DOGS)),
-        Asked::One(Ask::Open("q", 5)),
-        Asked::One(Ask::Step),
-        Asked::One(Ask::Release),
-    ];
-    let second = [
-        Asked::Run,
-        Asked::One(Ask::Resume),
-        Asked::Run,
-        Asked::One(Ask::Print),
-        Asked::One(Ask::Settle),
-    ];
-    let mut heads = List::new(alloc);
-    heads.push(head(alloc)?)?;
-    let mut clients = List::new(alloc);
-    clients.push(orders(alloc, &first)?)?;
-    clients.push(orders(alloc, &second)?)?;
-    Ok(Script { heads, clients })
-}
-
-const TWO_CLIENTS_LINES: &[u8] =
-    b"{\"call\":1,\"caller\":1,\"command\":\"doc\",\"documents\":1,\"name\":\"d\",\"reply\":\"ok\"}\n{\"call\":2,\"caller\":1,\"command\":\"open\",\"documents\":1,\"limit\":5,\"name\":\"s\",\"reply\":\"ok\"}\n{\"added\":1,\"call\":3,\"caller\":1,\"command\":\"step\",\"name\":\"s\",\"reply\":\"ok\",\"round\":1,\"state\":\"going\"}\n{\"call\":4,\"caller\":1,\"command\":\"release\",\"name\":\"s\",\"reply\":\"ok\"}\n{\"call\":1,\"caller\":2,\"command\":\"step\",\"name\":\"s\",\"reply\":\"NotHeld\"}\n{\"call\":2,\"caller\":2,\"command\":\"resume\",\"documents\":1,\"limit\":5,\"mentions\":1,\"name\":\"s\",\"reply\":\"ok\",\"round\":1,\"state\":\"going\"}\n{\"added\":0,\"call\":3,\"caller\":2,\"command\":\"step\",\"name\":\"s\",\"reply\":\"ok\",\"round\":2,\"state\":\"finished\"}\n{\"arguments\":[],\"document\":\"d\",\"end\":2,\"label\":\"Query\",\"rule\":\"query\",\"sentence\":0,\"session\":\"s\",\"start\":1,\"text\":\"bark\"}\n{\"call\":4,\"caller\":2,\"command\":\"print\",\"mentions\":1,\"name\":\"s\",\"reply\":\"ok\",\"round\":2,\"state\":\"finished\"}\n{\"call\":5,\"caller\":2,\"command\":\"settle\",\"reply\":\"ok\",\"sizes\":[1]}\n";
-
-/// Of two clients the second goes on after a refusal, and takes over the session that the first one left.
+/// Each of these scripts has two faults.
 #[test]
-fn a_second_client_goes_on_with_a_released_session(rt: HostRuntime) -> Result<(), Fail> {
-    let alloc = rt.alloc();
-    let Ok(script) = accept(alloc, two_clients(alloc)?) else {
-        return Err(Fail::from(AllocError));
-    };
-    let Run {
-        status,
-        history,
-        sink,
-    } = run_script(alloc, script, MemSink::new(alloc, 10000)?);
-    assert!(rt; matches!(status, Status::Refused));
-    assert!(rt; sink.written() == TWO_CLIENTS_LINES);
-    assert_eq!(rt; history.len(), 9);
+fn the_first_fault_of_a_script_is_told(rt: HostRuntime) -> Result<(), Fail> {
+    let cases = [
+        faulty(b"client\n#\xff\nx\n", b"odinson: script line 2: NotUtf8\n"),
+        faulty(
+            b"grammar g 2\na\n\xff\nx\n",
+            b"odinson: script line 3: NotUtf8\n",
+        ),
+        faulty(b"Client\nstep\n", b"odinson: script line 1: BadWord\n"),
+        faulty(
+            b"client\nquery q\nx\n",
+            b"odinson: script line 2: LateHead\n",
+        ),
+        faulty(
+            b"query q a\ndoc d1 7\nx\n",
+            b"odinson: script line 2: NoClient\n",
+        ),
+        faulty(b"query q\nx\n", b"odinson: script line 1: Shape\n"),
+        faulty(
+            b"client\nopen s ? x\nx\n",
+            b"odinson: script line 2: BadName\n",
+        ),
+        faulty(
+            b"client\ndoc d 01\nx\n",
+            b"odinson: script line 2: BadNumber\n",
+        ),
+        faulty(
+            b"query q a\ngrammar q 9\nx\n",
+            b"odinson: script line 2: SameHead\n",
+        ),
+        faulty(
+            b"grammar g 3\na\n\xff\n",
+            b"odinson: script line 1: ShortBlock\n",
+        ),
+        faulty(
+            b"client\nclient\nclient\nclient\nclient\nclient\nclient\nclient\nclient\nx\n",
+            b"odinson: script line 9: TooMany\n",
+        ),
+    ];
+    for case in &cases {
+        let ended = served(rt.alloc(), case.script)?;
+        assert_eq!(rt; ended.status, case.status);
+        assert!(rt; ended.history.is_empty());
+        assert!(rt; ended.diag.written() == case.said);
+    }
     Ok(())
 }
 
-/// Of two grammars the second is a rule file, which is not accepted yet.
+/// A script of one unknown word, which has one byte more than 64 MiB.
 #[test]
-fn the_first_grammar_that_is_not_accepted_is_named(rt: HostRuntime) -> Result<(), Fail> {
-    let alloc = rt.alloc();
-    let mut heads = List::new(alloc);
-    heads.push(head(alloc)?)?;
-    heads.push(Head {
-        name: Text::from_str(alloc, "rules")?,
-        kind: GrammarKind::RuleFile,
-        text: Text::from_str(alloc, "rules:\n")?,
-    })?;
-    let script = Script {
-        heads,
-        clients: List::new(alloc),
-    };
-    let mut diag = MemSink::new(alloc, 100)?;
-    match accept(alloc, script) {
-        Ok(_) => assert!(rt; false),
-        Err(status) => {
-            assert_eq!(rt; exit_status(&status), 4);
-            warn(&mut diag, &status);
-        }
+fn a_script_of_more_than_64_mebibytes_is_too_long(rt: HostRuntime) -> Result<(), Fail> {
+    let script = vec![in rt.alloc(); b'x'; 67108865]?;
+    let ended = served(rt.alloc(), &script)?;
+    assert_eq!(rt; ended.status, 3);
+    assert!(rt; ended.diag.written() == b"odinson: script line 0: TooLong\n".as_slice());
+    Ok(())
+}
+
+/// Scripts that are run, and one whose second grammar is not accepted.
+#[test]
+fn scripts_are_answered(rt: HostRuntime) -> Result<(), Fail> {
+    let cases = [
+        // No client asks anything.
+        Case {
+            script: b"",
+            status: 0,
+            lines: b"",
+            said: b"",
+        },
+        // The client goes on after a refused document; with no document there is no segment.
+        Case {
+            script: b"client\ndoc d1 4\n1\ta\t_\t_\t_\t_\t_\t_\t_\t_\n2\tb\t_\t_\t_\t_\t_\t_\t_\t_\n3\tc\t_\t_\t_\t_\t9\t_\t_\t_\n4\td\t_\t_\t_\t_\t_\t_\t_\t_\nsettle\n",
+            status: 1,
+            lines: b"{\"call\":1,\"caller\":1,\"command\":\"doc\",\"kind\":\"HeadRange\",\"line\":3,\"name\":\"d1\",\"reply\":\"BadDoc\"}\n{\"call\":2,\"caller\":1,\"command\":\"settle\",\"reply\":\"ok\",\"sizes\":[]}\n",
+            said: b"",
+        },
+        // A document whose lines end with carriage returns too, with a range and no last blank line.
+        Case {
+            script: b"query q i\nclient\ndoc d 9\n# sent_id = a-1\r\n# text = I haven't a clue.\r\n1\tI\tI\tPRON\tPRP\t_\t2\tnsubj\t_\t_\r\n2-3\thaven't\t_\t_\t_\t_\t_\t_\t_\t_\r\n2\thave\thave\tVERB\tVBP\t_\t0\troot\t_\t_\r\n3\tnot\tnot\tPART\tRB\t_\t2\tadvmod\t_\tSpaceAfter=Yes\r\n4\ta\ta\tDET\tDT\t_\t5\tdet\t_\t_\r\n5\tclue\tclue\tNOUN\tNN\t_\t2\tobj\t_\tSpaceAfter=No\r\n6\t.\t.\tPUNCT\t.\t_\t2\tpunct\t_\t_\r\nopen s q 5\nrun s\nprint s\n",
+            status: 0,
+            lines: b"{\"call\":1,\"caller\":1,\"command\":\"doc\",\"documents\":1,\"name\":\"d\",\"reply\":\"ok\"}\n{\"call\":2,\"caller\":1,\"command\":\"open\",\"documents\":1,\"limit\":5,\"name\":\"s\",\"reply\":\"ok\"}\n{\"added\":1,\"call\":3,\"caller\":1,\"command\":\"step\",\"name\":\"s\",\"reply\":\"ok\",\"round\":1,\"state\":\"going\"}\n{\"added\":0,\"call\":4,\"caller\":1,\"command\":\"step\",\"name\":\"s\",\"reply\":\"ok\",\"round\":2,\"state\":\"finished\"}\n{\"arguments\":[],\"document\":\"d\",\"end\":1,\"label\":\"Query\",\"rule\":\"query\",\"sentence\":0,\"session\":\"s\",\"start\":0,\"text\":\"I\"}\n{\"call\":5,\"caller\":1,\"command\":\"print\",\"mentions\":1,\"name\":\"s\",\"reply\":\"ok\",\"round\":2,\"state\":\"finished\"}\n",
+            said: b"",
+        },
+        // Three clients, of which the first two let their session go, and the next ones take it.
+        Case {
+            script: b"query q dogs bark\nclient\ndoc d 2\n1\tDogs\t_\t_\t_\t_\t_\t_\t_\t_\n2\tbark\t_\t_\t_\t_\t_\t_\t_\t_\nopen s q 5\nstep s\nrelease s\nclient\n# nobody holds it\nrun s\nresume s\nrun s\nrelease s\nclient\nresume s\nprint s\nresume s\nsettle\n",
+            status: 1,
+            lines: b"{\"call\":1,\"caller\":1,\"command\":\"doc\",\"documents\":1,\"name\":\"d\",\"reply\":\"ok\"}\n{\"call\":2,\"caller\":1,\"command\":\"open\",\"documents\":1,\"limit\":5,\"name\":\"s\",\"reply\":\"ok\"}\n{\"added\":1,\"call\":3,\"caller\":1,\"command\":\"step\",\"name\":\"s\",\"reply\":\"ok\",\"round\":1,\"state\":\"going\"}\n{\"call\":4,\"caller\":1,\"command\":\"release\",\"name\":\"s\",\"reply\":\"ok\"}\n{\"call\":1,\"caller\":2,\"command\":\"step\",\"name\":\"s\",\"reply\":\"NotHeld\"}\n{\"call\":2,\"caller\":2,\"command\":\"resume\",\"documents\":1,\"limit\":5,\"mentions\":1,\"name\":\"s\",\"reply\":\"ok\",\"round\":1,\"state\":\"going\"}\n{\"added\":0,\"call\":3,\"caller\":2,\"command\":\"step\",\"name\":\"s\",\"reply\":\"ok\",\"round\":2,\"state\":\"finished\"}\n{\"call\":4,\"caller\":2,\"command\":\"release\",\"name\":\"s\",\"reply\":\"ok\"}\n{\"call\":1,\"caller\":3,\"command\":\"resume\",\"documents\":1,\"limit\":5,\"mentions\":1,\"name\":\"s\",\"reply\":\"ok\",\"round\":2,\"state\":\"finished\"}\n{\"arguments\":[],\"document\":\"d\",\"end\":2,\"label\":\"Query\",\"rule\":\"query\",\"sentence\":0,\"session\":\"s\",\"start\":0,\"text\":\"Dogs bark\"}\n{\"call\":2,\"caller\":3,\"command\":\"print\",\"mentions\":1,\"name\":\"s\",\"reply\":\"ok\",\"round\":2,\"state\":\"finished\"}\n{\"call\":3,\"caller\":3,\"command\":\"resume\",\"name\":\"s\",\"owner\":3,\"reply\":\"Busy\"}\n{\"call\":4,\"caller\":3,\"command\":\"settle\",\"reply\":\"ok\",\"sizes\":[1]}\n",
+            said: b"",
+        },
+        // Refusals of names, limits and states; a refused order changes nothing.
+        Case {
+            script: b"query q dogs bark\nclient\ndoc d 2\n1\tDogs\t_\t_\t_\t_\t_\t_\t_\t_\n2\tbark\t_\t_\t_\t_\t_\t_\t_\t_\ndoc d 1\n1\tx\t_\t_\t_\t_\t_\t_\t_\t_\nopen s p 5\nopen s q 0\nopen s q 1\nopen s q 2\nstep t\nrun s\nstep s\nopen u q 5\nrun u\nstep u\n",
+            status: 1,
+            lines: b"{\"call\":1,\"caller\":1,\"command\":\"doc\",\"documents\":1,\"name\":\"d\",\"reply\":\"ok\"}\n{\"call\":2,\"caller\":1,\"command\":\"doc\",\"name\":\"d\",\"reply\":\"Duplicate\"}\n{\"call\":3,\"caller\":1,\"command\":\"open\",\"name\":\"s\",\"reply\":\"NoGrammar\"}\n{\"call\":4,\"caller\":1,\"command\":\"open\",\"limit\":0,\"name\":\"s\",\"reply\":\"BadLimit\"}\n{\"call\":5,\"caller\":1,\"command\":\"open\",\"documents\":1,\"limit\":1,\"name\":\"s\",\"reply\":\"ok\"}\n{\"call\":6,\"caller\":1,\"command\":\"open\",\"name\":\"s\",\"reply\":\"Taken\"}\n{\"call\":7,\"caller\":1,\"command\":\"step\",\"name\":\"t\",\"reply\":\"NoSession\"}\n{\"added\":1,\"call\":8,\"caller\":1,\"command\":\"step\",\"name\":\"s\",\"reply\":\"ok\",\"round\":1,\"state\":\"limit\"}\n{\"call\":9,\"caller\":1,\"command\":\"step\",\"name\":\"s\",\"reply\":\"AtLimit\",\"round\":1}\n{\"call\":10,\"caller\":1,\"command\":\"open\",\"documents\":1,\"limit\":5,\"name\":\"u\",\"reply\":\"ok\"}\n{\"added\":1,\"call\":11,\"caller\":1,\"command\":\"step\",\"name\":\"u\",\"reply\":\"ok\",\"round\":1,\"state\":\"going\"}\n{\"added\":0,\"call\":12,\"caller\":1,\"command\":\"step\",\"name\":\"u\",\"reply\":\"ok\",\"round\":2,\"state\":\"finished\"}\n{\"call\":13,\"caller\":1,\"command\":\"step\",\"name\":\"u\",\"reply\":\"Finished\",\"round\":2}\n",
+            said: b"",
+        },
+        // The second grammar is not accepted, nor is the third.
+        Case {
+            script: b"query q a\nquery r [word=a]\ngrammar g 1\nrules:\nclient\nsettle\n",
+            status: 4,
+            lines: b"",
+            said: b"odinson: grammar r: Later\n",
+        },
+    ];
+    for case in &cases {
+        let ended = served(rt.alloc(), case.script)?;
+        assert_eq!(rt; ended.status, case.status);
+        assert!(rt; ended.sink.written() == case.lines);
+        assert!(rt; ended.diag.written() == case.said);
     }
-    assert!(rt; diag.written() == NAMED);
+    Ok(())
+}
+
+/// An order for a document of one sentence of so many words.
+fn words_order(alloc: Global, name: &str, count: u32) -> Result<String, AllocError> {
+    let mut order = format!(in alloc; "doc {name} {count}\n")?;
+    for id in 0..count {
+        let number = id as u64 + 1;
+        let line = format!(in alloc; "{number}\tw\t_\t_\t_\t_\t_\t_\t_\t_\n")?;
+        order.push_str(line.as_str())?;
+    }
+    Ok(order)
+}
+
+#[test]
+fn a_sentence_has_at_most_2000_words(rt: HostRuntime) -> Result<(), Fail> {
+    let alloc = rt.alloc();
+    let mut script = String::from_str(alloc, "client\n")?;
+    script.push_str(words_order(alloc, "a", 2000)?.as_str())?;
+    script.push_str(words_order(alloc, "b", 2001)?.as_str())?;
+    let ended = served(alloc, script.as_bytes())?;
+    assert_eq!(rt; ended.status, 1);
+    assert!(rt;
+        ended.sink.written()
+            == b"{\"call\":1,\"caller\":1,\"command\":\"doc\",\"documents\":1,\"name\":\"a\",\"reply\":\"ok\"}\n{\"call\":2,\"caller\":1,\"command\":\"doc\",\"kind\":\"TooManyTokens\",\"line\":2001,\"name\":\"b\",\"reply\":\"BadDoc\"}\n".as_slice()
+    );
+    Ok(())
+}
+
+#[test]
+fn sentences_of_13_documents_settle_in_one_segment(rt: HostRuntime) -> Result<(), Fail> {
+    let alloc = rt.alloc();
+    let mut script = String::from_str(alloc, "client\n")?;
+    for number in 0..13 {
+        let name = format!(in alloc; "d{number}")?;
+        script.push_str(words_order(alloc, name.as_str(), 1)?.as_str())?;
+    }
+    script.push_str("settle\n")?;
+    let ended = served(alloc, script.as_bytes())?;
+    assert_eq!(rt; ended.status, 0);
+    let last =
+        b"{\"call\":14,\"caller\":1,\"command\":\"settle\",\"reply\":\"ok\",\"sizes\":[13]}\n";
+    assert!(rt; ended.sink.written().ends_with(last));
     Ok(())
 }

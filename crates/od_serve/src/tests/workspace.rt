@@ -1,9 +1,11 @@
 use crate::examples::{Ask, DOGS, command, head};
 use od_command::history::{Command, Refusal, Reply};
 use od_extraction::phase::Phase;
+use od_text::list::List;
 use od_text::text::{Bytes, NoMemory, Text};
 use od_workspace::workspace::Workspace;
 use od_workspace::workspace::change::Answer;
+use od_workspace::workspace::heads::Heads;
 use std::alloc::{AllocError, Global};
 use std::test::Fail;
 
@@ -17,7 +19,9 @@ fn asked(
     caller: u32,
     command: Command,
 ) -> Result<Reply, NoMemory> {
-    let heads = [head(alloc)?];
+    let mut list = List::new(alloc);
+    list.push(head(alloc)?)?;
+    let heads = Heads::new(alloc, list)?;
     let Answer { reply, change } = workspace.answer(alloc, &heads, caller, &command)?;
     workspace.change(alloc, change)?;
     Ok(reply)

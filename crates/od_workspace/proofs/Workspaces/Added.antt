@@ -1,11 +1,9 @@
 -- One document more, and one session more.
 use Rattle.std.proofs.Common.{◌≡◌, ℕ, ◌+◌, ◌<◌, ◌≤◌, List, [], ◌∷◌, ◌++◌, map, position, length, Option, Some, None, Bool, true, false, cond, ◌||◌, refl, sym, ap, ap₂, ◌∙◌, bytes_eq, arith, nat_le, nat_lt}
-use Rattle.std.specs.List.{position_from, list_any}
-use Rattle.std.specs.Option.{is_some}
+use Rattle.std.specs.List.{list_any}
 use Rattle.std.proofs.lemmas.Bool.{or_parts, leb-false, ltb-false}
-use Rattle.std.proofs.lemmas.List.{map-append, length_push}
+use Rattle.std.proofs.lemmas.List.{length_push}
 use Rattle.std.proofs.lemmas.List.Sums.{sum_by_push}
-use Rattle.std.proofs.lemmas.Iterator.Adapters.{position_from-zero}
 use Rattle.od_document.specs.declared.doc.Doc.{Doc}
 use Rattle.od_document.specs.declared.sentence.Sentence.{Sentence}
 use Rattle.od_session.specs.declared.object.SessionState.{SessionState}
@@ -13,39 +11,8 @@ use Rattle.od_document.specs.Size.{size_in_parts}
 use Rattle.od_session.specs.declared.object.TheConstants.{ALL_DOCUMENTS, ALL_BYTES, SESSIONS}
 use Rattle.od_session.specs.Parts.{size_of, is_full, is_named}
 use Rattle.od_model.proofs.Objects.Places.{Distinct-append}
+use Rattle.od_names.proofs.Named.{names-more}
 use Rattle.od_workspace.specs.Workspaces.Kept.{IsKept}
-use Rattle.od_workspace.proofs.Workspaces.Places.{position-map}
-
--- ## Whether a name is there
-
-some-later : {X : Type 0} (p : X → Bool) (n : ℕ) (xs : List X) (b : Bool) → is_some (position_from p (n + 1) xs) ≡ list_any p xs → is_some (cond b (Some n) (position_from p (n + 1) xs)) ≡ (b || list_any p xs)
-some-later p n xs true h = refl
-some-later p n xs false h = h
-
-some-from : {X : Type 0} (p : X → Bool) (n : ℕ) (xs : List X) → is_some (position_from p n xs) ≡ list_any p xs
-some-from p n [] = refl
-some-from p n (x ∷ xs) = some-later p n xs (p x) (some-from p (n + 1) xs)
-
--- a place is found exactly where an element passes
-pub is_some-position : {X : Type 0} (p : X → Bool) (xs : List X) → is_some (position p xs) ≡ list_any p xs
-is_some-position p xs = ap is_some (position_from-zero p xs) ∙ some-from p 0 xs
-
-none-of : (r : Option ℕ) → is_some r ≡ false → r ≡ None
-none-of None e = refl
-none-of (Some i) e = absurd (cc)
-
-module _ {X : Type 0} (f : X → List ℕ) (name : List ℕ) (names : List (List ℕ)) (xs : List X) (are : names ≡ map f xs) where
-  -- a name has a place exactly where it is the name of an element
-  pub named : is_some (position (λ other. bytes_eq other name) names) ≡ list_any (λ x. bytes_eq (f x) name) xs
-  named = ap is_some (ap (position (λ other. bytes_eq other name)) are ∙ position-map (λ other. bytes_eq other name) f xs) ∙ is_some-position (λ x. bytes_eq (f x) name) xs
-
-  -- a new name has none
-  pub unnamed : list_any (λ x. bytes_eq (f x) name) xs ≡ false → position (λ other. bytes_eq other name) names ≡ None
-  unnamed new = none-of (position (λ other. bytes_eq other name) names) (named ∙ new)
-
-  -- the names with one more
-  pub names-more : (x : X) → f x ≡ name → names ++ name ∷ [] ≡ map f (xs ++ x ∷ [])
-  names-more x is = ap₂ (λ (l : List (List ℕ)) (n : List ℕ). l ++ n ∷ []) are (sym is) ∙ sym (map-append f xs (x ∷ []))
 
 -- ## One session more
 

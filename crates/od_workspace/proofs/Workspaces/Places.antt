@@ -4,6 +4,7 @@ use Rattle.std.specs.List.{position_from}
 use Rattle.std.proofs.lemmas.Iterator.Adapters.{position_from-zero}
 use Rattle.std.proofs.lemmas.Option.{slice_get_read, slice_get_within}
 use Rattle.od_session.specs.declared.object.SessionState.{SessionState}
+use Rattle.od_names.proofs.Named.{position-map}
 use Rattle.od_session.specs.Parts.{is_named, session_of}
 
 -- what is found at a place, counted on from n
@@ -30,14 +31,6 @@ module _ {X : Type 0} (p : X → Bool) where
   -- the first place at which p passes is that of what is found
   pub found-at_position : (xs : List X) → MatchOption (position p xs) (find p xs ≡ None) (λ i. (x : X) × (slice_get xs i ≡ Some x) × (find p xs ≡ Some x))
   found-at_position xs = first-place xs (position p xs) (subst (FoundFrom p 0 xs) (sym (position_from-zero p xs)) (found_from 0 xs))
-
-position_from-map : {X Y : Type 0} (p : Y → Bool) (f : X → Y) (n : ℕ) (xs : List X) → position_from p n (map f xs) ≡ position_from (λ x. p (f x)) n xs
-position_from-map p f n [] = refl
-position_from-map p f n (x ∷ xs) = ap (λ r. cond (p (f x)) (Some n) r) (position_from-map p f (n + 1) xs)
-
--- the first place among mapped elements
-pub position-map : {X Y : Type 0} (p : Y → Bool) (f : X → Y) (xs : List X) → position p (map f xs) ≡ position (λ x. p (f x)) xs
-position-map p f xs = position_from-zero p (map f xs) ∙ position_from-map p f 0 xs ∙ sym (position_from-zero (λ x. p (f x)) xs)
 
 -- a session of the name at a place is the one that is found
 abbrev pub IsFoundAt : List ℕ → List SessionState → ℕ → Type 0

@@ -8,10 +8,17 @@ use Rattle.od_model.specs.Run.Clients.{EachClient, OfClients}
 use Rattle.od_model.proofs.Histories.Callers.{each-client}
 use Rattle.od_serve.proofs.clients.run_clients.Given.{Over}
 use Rattle.od_serve.proofs.clients.run_clients.Goals as goal
-use Rattle.od_serve.proofs.ClientLemmas.{fresh-caller, callers-more, clients-more, clients-cut, of-clients, both-true, split_at}
+use Rattle.od_serve.proofs.ClientLemmas.{fresh-caller, callers-more, clients-more, clients-cut, of-clients, both-true, orders-few, split_at}
 
 pub run_as_far-requires-clause-fresh : goal.run_as_far-requires-clause-fresh
 run_as_far-requires-clause-fresh g c = fresh-caller c.clients.caller c.clients.yielded c.clients.desk.history c.clients.invariant.caller c.clients.invariant.callers
+
+pub run_as_far-requires-clause-few : goal.run_as_far-requires-clause-few
+run_as_far-requires-clause-few g c =
+    let gives = c.into_iter-orders-iterator.ensures.into_iter_gives in
+    let road = YieldsList-from_vec {s = c.into_iter-orders-iterator.result} c.args.clients (gives.0 ∙ c.into_vec-orders-items.ensures) (gives.1 ∙ c.into_vec-orders-items.result.ok.0 ∙ ap length c.into_vec-orders-items.ensures) in
+    let turn = YieldsList-turn road c.clients.yielded c.clients.orders-iterator c.clients.yielded_by c.next.result c.next.new.self c.in-Some.orders c.in-Some.is c.next.ensures.steps in
+    orders-few c.args.clients (length c.clients.yielded) c.in-Some.orders turn.0 turn.1 c.requires.short
 
 -- the clients so far, the one that stopped, and those behind it
 clients-are : (g : Over) (c : goal.After-drop-orders-iterator g) → c.args.clients ≡ (c.clients.yielded ++ c.in-Some.orders ∷ []) ++ drop (length c.clients.yielded + 1) c.args.clients

@@ -1,16 +1,16 @@
 use Rattle.std.proofs.Common.{◌≡◌, ℕ, List, Err, ap, sym, subst}
 use Rattle.std.specs.Option.{IfSome}
-use Rattle.od_model.specs.Run.Clients.{IsRunnable}
-use Rattle.od_model.proofs.Runnable.{script-runnable}
+use Rattle.od_order.specs.Laws.{IsFew}
+use Rattle.od_order.proofs.Few.{scripts_are_few}
 use Rattle.od_serve.proofs.Outcomes.{long-is-no-script, ok-weaker}
 use Rattle.od_serve.proofs.serve.read_source.Goals as goal
 
 pub returns-in-Err-TooLong-clause-fault : goal.returns-in-Err-TooLong-clause-fault
 returns-in-Err-TooLong-clause-fault g c = long-is-no-script (g.S.Source.left c.args.source.now) (c.in-Err-TooLong.ensures.too_long (ap (λ x. Err x) c.in-Err-TooLong.field-0-is))
 
-pub returns-in-Ok-read_script-clause-runnable : goal.returns-in-Ok-read_script-clause-runnable
-returns-in-Ok-read_script-clause-runnable g c = ok-weaker c.accept.result _ IsRunnable
-    (λ script same. subst IsRunnable (sym same.0) (script-runnable c.get.result.now c.in-Ok-read_script.script c.in-Ok-read_script.ensures.ok)) c.accept.ensures.accepted
+pub returns-in-Ok-read_script-clause-few : goal.returns-in-Ok-read_script-clause-few
+returns-in-Ok-read_script-clause-few g c = ok-weaker c.accept.result _ IsFew
+    (λ script same. subst IsFew (sym same.0) (scripts_are_few c.get.result.now c.in-Ok-read_script.script c.in-Ok-read_script.ensures.ok)) c.accept.ensures.accepted
 
 pub returns-in-Ok-read_script-clause-fault : goal.returns-in-Ok-read_script-clause-fault
 returns-in-Ok-read_script-clause-fault g c =

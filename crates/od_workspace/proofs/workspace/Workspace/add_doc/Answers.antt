@@ -1,4 +1,5 @@
-use Rattle.od_workspace.proofs.Workspaces.Added.{unnamed, kept-doc}
+use Rattle.od_names.proofs.Named.{unnamed}
+use Rattle.od_workspace.proofs.Workspaces.Added.{kept-doc}
 use Rattle.od_workspace.proofs.workspace.Workspace.add_doc.Goals as goal
 
 pub push-requires : goal.push-requires

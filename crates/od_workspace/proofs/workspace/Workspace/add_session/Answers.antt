@@ -1,5 +1,6 @@
 use Rattle.std.proofs.Common.{refl}
-use Rattle.od_workspace.proofs.Workspaces.Added.{unnamed, kept-session}
+use Rattle.od_names.proofs.Named.{unnamed}
+use Rattle.od_workspace.proofs.Workspaces.Added.{kept-session}
 use Rattle.od_workspace.proofs.workspace.Workspace.add_session.Goals as goal
 
 pub push-requires : goal.push-requires

@@ -1,6 +1,6 @@
 use Rattle.std.proofs.Common.{◌∙◌, ap}
 use Rattle.std.specs.Option.{is_some}
-use Rattle.od_workspace.proofs.Workspaces.Added.{named}
+use Rattle.od_names.proofs.Named.{named}
 use Rattle.od_workspace.proofs.workspace.Workspace.has_doc.Goals as goal
 
 pub returns : goal.returns
