@@ -55,7 +55,7 @@ impl MemSource {
 }
 
 /// Whether an ascending list of calls has this one.
-fn is_listed(calls: &[u32], call: u64) -> bool
+pub(crate) fn is_listed(calls: &[u32], call: u64) -> bool
     requires { IsNonDecreasing calls.now }
     ensures { IsTrue result ↔ Contains calls.now call }
 {

@@ -1,0 +1,12 @@
+pub mod AskedLemmas
+pub mod HitLemmas
+pub mod Lists
+pub mod MarkLemmas
+pub mod NoteLemmas
+pub mod OwnLemmas
+pub mod PartRows
+pub mod PlaceLemmas
+pub mod RowLemmas
+pub mod RunnerLemmas
+pub mod StackLemmas
+pub mod StepLemmas

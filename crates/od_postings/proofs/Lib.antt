@@ -1,0 +1,7 @@
+-- The lemmas of this crate.
+pub mod Blocks
+pub mod Lists
+pub mod Orders
+pub mod Sentences
+pub mod Tables
+pub mod Unions

@@ -1,0 +1,5 @@
+-- The definitions of this crate.
+pub mod Numbers
+pub mod Optional
+pub mod Seen
+pub mod Tables
