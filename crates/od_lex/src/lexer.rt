@@ -3,7 +3,7 @@ ghost use Rattle.std.specs.Prelude.{◌≡◌, ℕ, ◌+◌, ◌-◌, ◌^◌, �
 ghost use Rattle.std.specs.Str.{chars as chars_in};
 ghost use Rattle.od_language.specs.declared.lexeme.LexKind.TheVariants as lexeme;
 ghost use Rattle.od_language.specs.Lexing.{size_of as bytes_of, Lexes, OneReading, IsLexFault};
-ghost use Rattle.od_language.specs.Lexed.{lexed};
+ghost use Rattle.od_language.specs.Lexed.{lexed, lexed_from};
 ghost use Rattle.od_language.specs.Answers.{IfMiss, GivesLexemes, RefusesText, lex_fault};
 ghost use Rattle.od_language.specs.Formed.{Formed};
 ghost use Rattle.od_language.specs.declared.lexeme.Lexeme.{Lexeme};
@@ -38,15 +38,19 @@ fn add(out: &mut Vec<Lexeme>, at: usize, kind: LexKind) -> Result<(), NoMemory>
     Ok(())
 }
 
-/// The lexemes of these characters.
+/// The lexemes of these characters, which begin at a place.
 #[tactic(auto, using(crate::proofs::Sizes::white_on, crate::proofs::Sizes::stuck_on, crate::proofs::Sizes::end_on, crate::proofs::Sizes::form_on, crate::proofs::Sizes::sized, std::proofs::Common::append_assoc))]
-fn lex_chars(alloc: Global, chars: &[char]) -> Result<(Vec<Lexeme>, Option<(u32, Miss)>), NoMemory>
-    requires { bytes_of chars.now < 2 ^ 32 }
-    ensures { IfOk result (λ x. Formed 0 chars.now x.0.items x.1) }
+fn lex_chars(
+    alloc: Global,
+    chars: &[char],
+    first: u32,
+) -> Result<(Vec<Lexeme>, Option<(u32, Miss)>), NoMemory>
+    requires { first + bytes_of chars.now < 2 ^ 32 }
+    ensures { IfOk result (λ x. Formed first chars.now x.0.items x.1) }
 {
     let mut out = Vec::new(alloc);
     let mut i = 0;
-    let mut at = 0;
+    let mut at = first as usize;
     while let Some(c) = scan::at(chars, i) {
         if c.is_whitespace() {
             i += 1;
@@ -83,7 +87,6 @@ pub struct Lexed {
 /// The lexemes of a text up to its first fault, and the fault.
 ///
 /// At each place the longest front that spells a lexeme is one. White space separates lexemes and means nothing else.
-#[tactic(auto, using(crate::proofs::Sizes::bytes_of, od_language::proofs::Lexing::Longest::longest_from, od_language::proofs::Lexing::Readings::computed_from))]
 pub fn lex(alloc: Global, text: &str) -> Result<Lexed, NoMemory>
     requires { length text.now < 2 ^ 32 }
     ensures value { IfOk result (λ read. Lexes 0 (chars_in text.now) read.lexemes.items read.fault) }
@@ -93,8 +96,19 @@ pub fn lex(alloc: Global, text: &str) -> Result<Lexed, NoMemory>
     // There is exactly one such reading.
     ensures one_reading { OneReading (chars_in text.now) }
 {
+    lex_at(alloc, text, 0)
+}
+
+/// The same of a text that begins at a place of a longer one, which the places of its lexemes and of its fault count from.
+#[tactic(auto, using(crate::proofs::Sizes::bytes_of, crate::proofs::OnlyReading::longest_at, crate::proofs::OnlyReading::computed_at))]
+pub fn lex_at(alloc: Global, text: &str, at: u32) -> Result<Lexed, NoMemory>
+    requires { at + length text.now < 2 ^ 32 }
+    ensures value { IfOk result (λ read. Lexes at (chars_in text.now) read.lexemes.items read.fault) }
+    ensures computed { IfOk result
+        (λ read. lexed_from at (chars_in text.now) ≡ (read.lexemes.items, read.fault)) }
+{
     let chars = scan::chars_of(alloc, text)?;
-    let (lexemes, fault) = lex_chars(alloc, &chars)?;
+    let (lexemes, fault) = lex_chars(alloc, &chars, at)?;
     Ok(Lexed { lexemes, fault })
 }
 

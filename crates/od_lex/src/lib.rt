@@ -2,11 +2,11 @@
 #![tactic(auto)]
 
 pub mod constraint;
-mod form;
+pub mod form;
 pub mod lexer;
-mod scan;
+pub mod scan;
 #[cfg(test)]
 mod tests;
 
 pub use constraint::{constraint_at, depth_at, parse_constraint};
-pub use lexer::{Lexed, lex, tokens};
+pub use lexer::{Lexed, lex, lex_at, tokens};

@@ -8,8 +8,8 @@ use Rattle.od_lex.proofs.lexer.lex_chars.Given as goal
 abbrev pub invariant-loop-at : goal.invariant-loop-at
 invariant-loop-at l = record {
   within : l.i ≤ length l.chars;
-  sized : l.at + bytes (drop l.i l.chars) ≡ bytes l.chars;
-  goes : (xs : List Lexeme) (f : Option (ℕ × Miss)) → Formed l.at (drop l.i l.chars) xs f → Formed 0 l.chars (l.out.items ++ xs) f;
+  sized : l.at + bytes (drop l.i l.chars) ≡ l.fn.first + bytes l.chars;
+  goes : (xs : List Lexeme) (f : Option (ℕ × Miss)) → Formed l.at (drop l.i l.chars) xs f → Formed l.fn.first l.chars (l.out.items ++ xs) f;
 }
 
 abbrev pub decreases-loop-at : goal.decreases-loop-at

@@ -1,0 +1,11 @@
+//! Hops, read from their texts: surface patterns joined by steps.
+#![tactic(auto)]
+
+mod ends;
+pub mod joints;
+pub mod surface;
+#[cfg(test)]
+mod tests;
+pub mod text;
+
+pub use text::{Measured, hop_at, parse_hop};

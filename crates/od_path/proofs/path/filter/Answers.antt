@@ -1,0 +1,8 @@
+use Rattle.od_path.proofs.Within.{filter_read, filter_fails}
+use Rattle.od_path.proofs.path.filter.Goals as goal
+
+pub returns-in-Ok-clause-goes : goal.returns-in-Ok-clause-goes
+returns-in-Ok-clause-goes c = λ x l e h a s k. filter_read c.args.depth x l _ _ c.in-Ok.c a s k e h c.in-Ok.ensures.goes
+
+pub returns-in-Err-clause-goes : goal.returns-in-Err-clause-goes
+returns-in-Err-clause-goes c = λ x l e h a s k. filter_fails c.in-Err.e c.args.depth x l _ a s k _ _ e h c.in-Err.ensures.goes

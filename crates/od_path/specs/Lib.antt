@@ -1,0 +1,4 @@
+-- What the contracts of the parsers' parts speak of.
+pub mod Machine
+pub mod Steps
+pub mod Texts

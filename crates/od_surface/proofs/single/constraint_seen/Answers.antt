@@ -1,0 +1,8 @@
+use Rattle.od_surface.proofs.Within.{look_read, look_fails}
+use Rattle.od_surface.proofs.single.constraint_seen.Goals as goal
+
+pub returns-in-Ok-clause-goes : goal.returns-in-Ok-clause-goes
+returns-in-Ok-clause-goes c = λ x l e h w a s k. look_read c.args.places c.args.depth x l _ _ w c.in-Ok.c a s k e h c.in-Ok.ensures.goes
+
+pub returns-in-Err-clause-goes : goal.returns-in-Err-clause-goes
+returns-in-Err-clause-goes c = λ x l e h w a s k. look_fails c.args.places c.in-Err.e c.args.depth x l _ w a s k _ _ e h c.in-Err.ensures.goes
