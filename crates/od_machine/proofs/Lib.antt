@@ -1,10 +1,11 @@
 pub mod Runs
 pub mod Does
+pub mod Bits
 pub mod Compiled
 pub mod Search
 pub mod Rows
 pub mod Sizes
 pub mod Names
-pub mod Marks
+pub mod Visiting
 pub mod Founds
 pub mod Entries

@@ -1,5 +1,5 @@
 -- The machine's input, of the table and the labelled spans that it is lent.
-use Rattle.std.specs.Prelude.{reverse, ◌≡◌, ℕ, suc, ◌+◌, ◌≤◌, Bool, true, false, List, [], ◌∷◌, Option, Some, None, slice_get, slice_index_or}
+use Rattle.std.specs.Prelude.{reverse, ◌++◌, option_to_list, ◌≡◌, ℕ, suc, ◌+◌, ◌≤◌, Bool, true, false, List, [], ◌∷◌, Option, Some, None, slice_get, slice_index_or}
 use Rattle.od_matching.specs.Matching.First.{Ending, accept}
 use Rattle.od_matching.specs.Matching.Derives.{World, fits_token}
 use Rattle.od_matching.specs.Matching.Scan.{is_span_in}
@@ -8,6 +8,8 @@ use Rattle.od_machine.specs.Search.{replay, Searching, FailFrom}
 use Rattle.od_machine.specs.declared.instruction.Instruction.{Instruction}
 use Rattle.od_machine.specs.declared.thread.Thread.{Thread}
 use Rattle.od_machine.specs.declared.thread.Event.{Event}
+use Rattle.od_machine.specs.declared.thread.Step.{Step}
+use Rattle.od_machine.specs.declared.thread.Step.TheVariants.{AtEnd, Goes}
 use Rattle.od_extraction.specs.declared.mention.Labelled.{Labelled}
 use Rattle.od_asked.specs.Asked.{Asked, at_tokens, at_edges}
 
@@ -39,22 +41,28 @@ abbrev pub given : ℕ → List (List Bool) → List Labelled → Input
 given tokens rows labels =
     record { length = tokens; holds = holds_in rows; is_span = is_span_in labels }
 
--- the search after a thread was taken up, which is at the end or not
+-- the thread that goes on, if there is one
+abbrev pub ahead : Step → List Thread
+ahead AtEnd = []
+ahead (Goes next) = option_to_list next
+
+-- the search after a thread was taken up
 abbrev pub After :
-    Input → List Instruction → ℕ → Option Ending → Bool → ℕ
+    Input → List Instruction → ℕ → Option Ending → Step → ℕ
     → List Bool → List Event → List Thread → Type 0
-After w code from goal true at seen trail ts =
+After w code from goal AtEnd at seen trail ts =
     (goal ≡ replay code trail (accept at))
     × (from ≤ at) × (at ≤ w.length) × FailFrom w code (at + 1) seen
-After w code from goal false at seen trail ts = Searching w code from goal seen trail ts
+After w code from goal (Goes next) at seen trail ts =
+    Searching w code from goal seen trail (option_to_list next ++ ts)
 
 -- whatever was searched for before a thread was taken up is searched for after it
 abbrev pub TakesUp :
-    Input → List Instruction → Thread → Bool → List Bool → List Event → List Thread
+    Input → List Instruction → Thread → Step → List Bool → List Event → List Thread
     → List Bool → List Event → List Thread → Type 0
-TakesUp w code from matched seen trail ts seen' trail' ts' =
+TakesUp w code from step seen trail ts seen' trail' ts' =
     (a : ℕ) (goal : Option Ending) → Searching w code a goal seen trail (from ∷ reverse ts)
-    → After w code a goal matched from.at seen' trail' (reverse ts')
+    → After w code a goal step from.at seen' trail' (reverse ts')
 
 -- from the first instruction at the place no way begins, whatever else the sentence has
 abbrev pub NeverBegins : List (List Bool) → List Instruction → ℕ → Type 0

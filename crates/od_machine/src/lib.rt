@@ -4,6 +4,7 @@
 pub mod compile;
 mod instruction;
 mod machine;
+mod marks;
 pub mod program;
 pub mod scan;
 pub mod spans;

@@ -1,16 +1,18 @@
 //! The search for the preferred way from a place: threads in the order of their choices.
-ghost use Rattle.std.specs.Prelude.{◌≡◌, ℕ, suc, true, ◌+◌, ◌-◌, ◌*◌, ◌^◌, ◌<◌, ◌≤◌, ◌++◌, ◌∷◌, [], Bool, false, not, List as Seq, Option, length, map, reverse, take, count_by, bytes_eq, IsTrue, vec_len, IfOk, OnOk};
+ghost use Rattle.std.specs.Prelude.{◌≡◌, ℕ, suc, true, ◌+◌, ◌-◌, ◌*◌, ◌^◌, ◌<◌, ◌≤◌, ◌++◌, ◌∷◌, [], Bool, false, not, List as Seq, Option, Some, None, option_to_list, if◌then◌else◌, length, map, reverse, take, count_by, bytes_eq, IsTrue, vec_len, IfOk, OnOk};
 ghost use Rattle.od_matching.specs.Matching.First.{Ending, accept};
 ghost use Rattle.od_matching.specs.Matching.Scan.{is_span_in};
+ghost use Rattle.od_machine.specs.Marks.{unset};
 ghost use Rattle.od_machine.specs.Machine.{follow, targets, state, run, peeks};
 ghost use Rattle.od_machine.specs.Search.{thread, state_of, index, replay, Searching, FailFrom, events_of};
 ghost use Rattle.od_extraction.specs.declared.mention.Labelled.{Labelled as Spanned};
 ghost use Rattle.od_machine.specs.Spans.{IsIndexOf};
-ghost use Rattle.od_machine.specs.Inputs.{holds_in, given, choose_threads, TakesUp, outcome, FailBehind};
+ghost use Rattle.od_machine.specs.Inputs.{holds_in, given, choose_threads, TakesUp, ahead, outcome, FailBehind};
 
 use crate::instruction::Instruction;
+use crate::marks::Marks;
 use crate::spans::{SpanEntry, entries_from, take_span};
-use crate::thread::{Event, Thread};
+use crate::thread::{Event, Step, Thread};
 use od_extraction::mention::Labelled;
 use od_text::list::List;
 use od_text::text::{NoMemory, Text};
@@ -28,7 +30,9 @@ pub(crate) fn holds(rows: &[List<bool>], row: u32, at: usize) -> bool
     }
 }
 
-/// Adds the states that follow, so that the first of them comes first.
+/// The state that follows and is preferred; the others are added, so that the first of them comes
+/// next. Behind labelled spans all are added.
+#[inline(always)]
 fn follow(
     instr: &Instruction,
     tokens: usize,
@@ -38,16 +42,17 @@ fn follow(
     from: Thread,
     events: usize,
     threads: &mut Vec<Thread>,
-) -> Result<(), NoMemory>
+) -> Result<Option<Thread>, NoMemory>
     requires index { IsIndexOf labels.now entries.now }
     requires small { from.pc < 2 ^ 31 }
     requires inside { from.at ≤ tokens }
     requires short { tokens < 2 ^ 31 }
-    ensures stack { OnOk result (reverse threads.new.items
+    ensures stack { IfOk result (λ first. option_to_list first ++ reverse threads.new.items
         ≡ map (thread events)
         (follow (given tokens rows.now labels.now) instr.now from.pc from.taken from.at)
         ++ reverse threads.old.items) }
-    ensures few { OnOk result (vec_len threads.new ≤ vec_len threads.old + (tokens + 2)) }
+    ensures few { IfOk result (λ first. length (option_to_list first) + vec_len threads.new
+        ≤ vec_len threads.old + (tokens + 2)) }
 {
     let Thread {
         pc,
@@ -62,55 +67,42 @@ fn follow(
         events,
     };
     match instr {
-        Instruction::Take(row) => {
-            if at < tokens && holds(rows, *row, at) {
-                threads.push(Thread {
-                    pc: pc + 1,
-                    taken: true,
-                    at: at + 1,
-                    events,
-                })?;
-            }
-        }
+        Instruction::Take(row) => Ok(if at < tokens && holds(rows, *row, at) {
+            Some(Thread {
+                pc: pc + 1,
+                taken: true,
+                at: at + 1,
+                events,
+            })
+        } else {
+            None
+        }),
         Instruction::Jump(name) => {
             jump(name, tokens, labels, entries, pc, at, events, threads)?;
+            Ok(None)
         }
         Instruction::Peek {
             ahead,
             positive,
             row,
-        } => {
-            if peeks(tokens, rows, *row, *ahead, *positive, at) {
-                threads.push(next)?;
-            }
-        }
-        Instruction::AtFirst => {
-            if at == 0 {
-                threads.push(next)?;
-            }
-        }
-        Instruction::AtLast => {
-            if at == tokens {
-                threads.push(next)?;
-            }
-        }
+        } => Ok(next_if(peeks(tokens, rows, *row, *ahead, *positive, at), next)),
+        Instruction::AtFirst => Ok(next_if(at == 0, next)),
+        Instruction::AtLast => Ok(next_if(at == tokens, next)),
         Instruction::Split(skip) => {
-            threads.push(Thread {
+            let later = Thread {
                 pc: pc + 1 + *skip as usize,
                 taken,
                 at,
                 events,
-            })?;
-            threads.push(next)?;
+            };
+            choose(false, next, later, threads)
         }
-        Instruction::Skip(skip) => {
-            threads.push(Thread {
-                pc: pc + 1 + *skip as usize,
-                taken,
-                at,
-                events,
-            })?;
-        }
+        Instruction::Skip(skip) => Ok(Some(Thread {
+            pc: pc + 1 + *skip as usize,
+            taken,
+            at,
+            events,
+        })),
         Instruction::Turn { lazy, skip } => {
             let turn = Thread {
                 pc: pc + 1,
@@ -124,49 +116,54 @@ fn follow(
                 at,
                 events,
             };
-            choose(*lazy, turn, leave, threads)?;
+            choose(*lazy, turn, leave, threads)
         }
-        Instruction::Turned => {
-            if taken {
-                threads.push(next)?;
-            }
-        }
+        Instruction::Turned => Ok(next_if(taken, next)),
         Instruction::Again { lazy, back } => {
-            if taken {
-                let turn = Thread {
-                    pc: pc.saturating_sub(*back as usize),
-                    taken: false,
-                    at,
-                    events,
-                };
-                choose(*lazy, turn, next, threads)?;
+            if !taken {
+                return Ok(None);
             }
+            let turn = Thread {
+                pc: pc.saturating_sub(*back as usize),
+                taken: false,
+                at,
+                events,
+            };
+            choose(*lazy, turn, next, threads)
         }
-        Instruction::Open(_) | Instruction::Close => threads.push(next)?,
-        Instruction::Fail | Instruction::Match => {}
+        Instruction::Open(_) | Instruction::Close => Ok(Some(next)),
+        Instruction::Fail | Instruction::Match => Ok(None),
     }
-    Ok(())
 }
 
-/// Another turn or none, the preferred one first.
+/// The thread, if the test passes.
+#[inline(always)]
+fn next_if(test: bool, next: Thread) -> Option<Thread>
+    ensures { result ≡ (if test then Some next else None) }
+{
+    if test { Some(next) } else { None }
+}
+
+/// Another turn or none: the preferred one, and the other is added.
+#[inline(always)]
 fn choose(
     lazy: bool,
     turn: Thread,
     leave: Thread,
     threads: &mut Vec<Thread>,
-) -> Result<(), NoMemory>
-    ensures stack { OnOk result (reverse threads.new.items
+) -> Result<Option<Thread>, NoMemory>
+    ensures stack { IfOk result (λ first. option_to_list first ++ reverse threads.new.items
         ≡ choose_threads lazy turn leave (reverse threads.old.items)) }
-    ensures few { OnOk result (vec_len threads.new ≡ vec_len threads.old + 2) }
+    ensures few { IfOk result (λ first.
+        length (option_to_list first) + vec_len threads.new ≡ vec_len threads.old + 2) }
 {
     if lazy {
         threads.push(turn)?;
-        threads.push(leave)?;
+        Ok(Some(leave))
     } else {
         threads.push(leave)?;
-        threads.push(turn)?;
+        Ok(Some(turn))
     }
-    Ok(())
 }
 
 /// Whether a look at the token at the place, or at the one before it, passes.
@@ -251,7 +248,7 @@ fn record_event(
     Ok(())
 }
 
-/// Takes up the first thread. Returns whether it is at the end.
+/// Takes up the first thread.
 fn visit(
     code: &[Instruction],
     tokens: usize,
@@ -259,41 +256,60 @@ fn visit(
     labels: &[Labelled],
     entries: &[SpanEntry],
     from: Thread,
-    seen: &mut Vec<bool>,
+    seen: &mut Marks,
     trail: &mut Vec<Event>,
     threads: &mut Vec<Thread>,
-) -> Result<bool, NoMemory>
+) -> Result<Step, NoMemory>
     requires index { IsIndexOf labels.now entries.now }
     requires inside { from.at ≤ tokens }
     requires short { tokens < 2 ^ 31 }
     requires size { length code.now < 2 ^ 31 }
     requires small { (tokens + 1) * length code.now * 2 < 2 ^ 62 }
-    requires room { (tokens + 1) * length code.now * 2 ≤ vec_len seen.old }
-    ensures searching { IfOk result (λ matched.
-        TakesUp (given tokens rows.now labels.now) code.now from matched
-        seen.old.items trail.old.items threads.old.items
-        seen.new.items trail.new.items threads.new.items) }
-    ensures room { vec_len seen.new ≡ vec_len seen.old }
-    ensures progress { OnOk result (count_by not seen.new.items * (tokens + 3) + vec_len threads.new
-        ≤ count_by not seen.old.items * (tokens + 3) + vec_len threads.old) }
+    requires room { (tokens + 1) * length code.now * 2 ≤ length seen.old.marks }
+    requires few { seen.old.steps + unset seen.old < 2 ^ 63 }
+    ensures searching { IfOk result (λ step.
+        TakesUp (given tokens rows.now labels.now) code.now from step
+        seen.old.marks trail.old.items threads.old.items
+        seen.new.marks trail.new.items threads.new.items) }
+    ensures room { length seen.new.marks ≡ length seen.old.marks }
+    ensures progress { IfOk result (λ step.
+        unset seen.new * (tokens + 3) + (length (ahead step) + vec_len threads.new)
+        ≤ unset seen.old * (tokens + 3) + vec_len threads.old) }
+    ensures counted { OnOk result (seen.new.steps + unset seen.new
+        ≡ seen.old.steps + unset seen.old) }
 {
     trail.truncate(from.events);
     if from.pc >= code.len() {
-        return Ok(false);
+        return Ok(Step::Goes(None));
     }
     let n = number(code.len(), tokens, from);
-    if seen[n] {
-        return Ok(false);
+    if seen.has(n) {
+        return Ok(Step::Goes(None));
     }
     let instr = &code[from.pc];
     if let Instruction::Match = instr {
-        return Ok(true);
+        return Ok(Step::AtEnd);
     }
-    seen[n] = true;
+    seen.set(n)?;
     record_event(instr, from.pc, from.at, trail)?;
     let events = trail.len();
-    follow(instr, tokens, rows, labels, entries, from, events, threads)?;
-    Ok(false)
+    let next = follow(instr, tokens, rows, labels, entries, from, events, threads)?;
+    Ok(Step::Goes(next))
+}
+
+/// The first thread: the one that goes on, or else the last of those that wait.
+#[inline(always)]
+fn first_of(next: Option<Thread>, threads: &mut Vec<Thread>) -> Option<Thread>
+    ensures stack { option_to_list next ++ reverse threads.old.items
+        ≡ option_to_list result ++ reverse threads.new.items }
+    ensures none { result ≡ None → threads.new.items ≡ [] }
+    ensures few { length (option_to_list next) + vec_len threads.old
+        ≡ length (option_to_list result) + vec_len threads.new }
+{
+    if let Some(thread) = next {
+        return Some(thread);
+    }
+    threads.pop()
 }
 
 /// The preferred way from the place, if there is one: where it ends. Its events are on the trail.
@@ -304,7 +320,7 @@ pub(crate) fn attempt(
     labels: &[Labelled],
     entries: &[SpanEntry],
     start: usize,
-    seen: &mut Vec<bool>,
+    seen: &mut Marks,
     trail: &mut Vec<Event>,
     threads: &mut Vec<Thread>,
 ) -> Result<Option<usize>, NoMemory>
@@ -313,27 +329,31 @@ pub(crate) fn attempt(
     requires short { tokens < 2 ^ 31 }
     requires size { length code.now < 2 ^ 31 }
     requires small { (tokens + 1) * length code.now * 2 < 2 ^ 62 }
-    requires room { (tokens + 1) * length code.now * 2 ≤ vec_len seen.old }
-    requires failed { FailFrom (given tokens rows.now labels.now) code.now start seen.old.items }
+    requires room { (tokens + 1) * length code.now * 2 ≤ length seen.old.marks }
+    requires failed { FailFrom (given tokens rows.now labels.now) code.now start seen.old.marks }
+    requires few { seen.old.steps + unset seen.old < 2 ^ 63 }
     ensures found { IfOk result (λ end. outcome code.now trail.new.items end
         ≡ run (given tokens rows.now labels.now) code.now (state 0 false start)) }
     ensures failed { IfOk result (λ end.
-        FailBehind (given tokens rows.now labels.now) code.now start end seen.new.items) }
-    ensures room { vec_len seen.new ≡ vec_len seen.old }
+        FailBehind (given tokens rows.now labels.now) code.now start end seen.new.marks) }
+    ensures room { length seen.new.marks ≡ length seen.old.marks }
+    ensures counted { OnOk result (seen.new.steps + unset seen.new
+        ≡ seen.old.steps + unset seen.old) }
 {
     trail.clear();
     threads.clear();
-    threads.push(Thread {
+    let mut next = Some(Thread {
         pc: 0,
         taken: false,
         at: start,
         events: 0,
-    })?;
-    'search: while let Some(from) = threads.pop() {
-        if visit(
+    });
+    'search: while let Some(from) = first_of(next, threads) {
+        match visit(
             code, tokens, rows, labels, entries, from, seen, trail, threads,
         )? {
-            return Ok(Some(from.at));
+            Step::AtEnd => return Ok(Some(from.at)),
+            Step::Goes(then) => next = then,
         }
     }
     Ok(None)

@@ -1,6 +1,8 @@
 //! The matches of a program's pattern in a sentence, one after another.
 ghost use Rattle.std.specs.Prelude.{◌≡◌, ℕ, ◌+◌, ◌-◌, ◌*◌, ◌^◌, ◌<◌, ◌≤◌, ◌++◌, ◌∷◌, [], Bool, true, false, not, List as Seq, Option, Some, None, length as length_of, reverse, drop, vec_len, slice_get, slice_index_or, IfOk, OnOk, IsTrue};
+ghost use Rattle.od_machine.specs.Cost.{states, steps_of};
 ghost use Rattle.od_machine.specs.Found.{so_far, ClearsPlace, GoesOn, AreFound, AreMatchesOf};
+ghost use Rattle.od_machine.specs.Marks.{unset};
 ghost use Rattle.od_machine.specs.Spans.{IsIndexOf, IsSpanIndex};
 ghost use Rattle.od_machine.specs.Inputs.{given, NeverBegins};
 ghost use Rattle.od_machine.specs.Search.{replay, act, name_in, FailFrom};
@@ -8,6 +10,7 @@ ghost use Rattle.od_matching.specs.Matching.First.{Ending, accept};
 
 use crate::instruction::Instruction;
 use crate::machine::{attempt, holds};
+use crate::marks::Marks;
 use crate::program::Program;
 use crate::spans::{SpanEntry, SpanIndex};
 use crate::thread::{Event, Thread};
@@ -17,6 +20,11 @@ use od_extraction::mention::{Labelled, Match, Part, Span};
 use od_text::list::List;
 use od_text::text::{Copied, NoMemory, Text};
 use std::alloc::Global;
+
+/// How many times an instruction is taken up at one place of a sentence in a whole scan, at most:
+/// with a token taken in the turn that is under way and without, and once more each where a match
+/// ends.
+pub const STATE_VISITS: usize = 4;
 
 /// The name that the instruction opens.
 fn name_at(alloc: Global, code: &[Instruction], pc: usize) -> Result<Text, NoMemory>
@@ -82,7 +90,8 @@ fn finish(
 /// Whether the pattern begins with a token, in captures or not, that does not stand here:
 /// then no way begins.
 fn cannot_begin(code: &[Instruction], rows: &[List<bool>], at: usize) -> bool
-    ensures { IsTrue result → NeverBegins rows.now code.now at }
+    ensures never { IsTrue result → NeverBegins rows.now code.now at }
+    ensures some { IsTrue result → 0 < length_of code.now }
 {
     for instruction in code {
         match instruction {
@@ -95,17 +104,17 @@ fn cannot_begin(code: &[Instruction], rows: &[List<bool>], at: usize) -> bool
 }
 
 /// Takes the marks at a place off.
-fn clear_place(seen: &mut Vec<bool>, size: usize, at: usize)
+fn clear_place(seen: &mut Marks, size: usize, at: usize)
     requires place { at < 2 ^ 31 }
     requires small { (at + 1) * size * 2 < 2 ^ 62 }
-    requires room { (at + 1) * size * 2 ≤ vec_len seen.old }
-    ensures len { vec_len seen.new ≡ vec_len seen.old }
-    ensures clears { ClearsPlace size at seen.old.items seen.new.items }
+    requires room { (at + 1) * size * 2 ≤ length_of seen.old.marks }
+    ensures len { length_of seen.new.marks ≡ length_of seen.old.marks }
+    ensures clears { ClearsPlace size at seen.old.marks seen.new.marks }
+    ensures counted { seen.new.steps + unset seen.new
+        ≤ seen.old.steps + unset seen.old + size * 2 }
 {
     let to = (at + 1) * size * 2;
-    for k in to - size * 2..to {
-        seen[k] = false;
-    }
+    seen.clear(to - size * 2, to);
 }
 
 /// Takes the match that begins at the place, if there is one. Returns where the search goes on.
@@ -117,7 +126,7 @@ fn scan_here(
     labels: &[Labelled],
     entries: &[SpanEntry],
     at: usize,
-    seen: &mut Vec<bool>,
+    seen: &mut Marks,
     trail: &mut Vec<Event>,
     threads: &mut Vec<Thread>,
     matches: &mut Vec<Match>,
@@ -127,17 +136,22 @@ fn scan_here(
     requires short { tokens < 2 ^ 31 }
     requires size { length_of code.now < 2 ^ 31 }
     requires small { (tokens + 1) * length_of code.now * 2 < 2 ^ 62 }
-    requires room { (tokens + 1) * length_of code.now * 2 ≤ vec_len seen.old }
-    requires failed { FailFrom (given tokens rows.now labels.now) code.now at seen.old.items }
+    requires room { (tokens + 1) * length_of code.now * 2 ≤ length_of seen.old.marks }
+    requires failed { FailFrom (given tokens rows.now labels.now) code.now at seen.old.marks }
+    requires few { seen.old.steps + unset seen.old < 2 ^ 63 }
     ensures scanned { IfOk result (λ next.
         GoesOn (given tokens rows.now labels.now) code.now
         matches.new.items next matches.old.items at) }
-    ensures forward { IfOk result (λ next. at < next) }
+    ensures forward { IfOk result (λ next. (at < next) × (next ≤ tokens)) }
     ensures failed { IfOk result (λ next.
-        FailFrom (given tokens rows.now labels.now) code.now next seen.new.items) }
-    ensures room { vec_len seen.new ≡ vec_len seen.old }
+        FailFrom (given tokens rows.now labels.now) code.now next seen.new.marks) }
+    ensures room { length_of seen.new.marks ≡ length_of seen.old.marks }
+    ensures counted { IfOk result (λ next.
+        seen.new.steps + unset seen.new + at * length_of code.now * 2
+        ≤ seen.old.steps + unset seen.old + next * length_of code.now * 2) }
 {
     if cannot_begin(code, rows, at) {
+        seen.step();
         return Ok(at + 1);
     }
     let Some(end) = attempt(
@@ -169,7 +183,7 @@ fn scan_rows(
     rows: &[List<bool>],
     labels: &[Labelled],
     entries: &[SpanEntry],
-    seen: &mut Vec<bool>,
+    seen: &mut Marks,
     trail: &mut Vec<Event>,
     threads: &mut Vec<Thread>,
 ) -> Result<Vec<Match>, NoMemory>
@@ -177,10 +191,13 @@ fn scan_rows(
     requires short { tokens < 2 ^ 31 }
     requires size { length_of code.now < 2 ^ 31 }
     requires small { (tokens + 1) * length_of code.now * 2 < 2 ^ 62 }
-    requires room { (tokens + 1) * length_of code.now * 2 ≤ vec_len seen.old }
-    requires failed { FailFrom (given tokens rows.now labels.now) code.now 0 seen.old.items }
-    ensures { IfOk result (λ found.
+    requires room { (tokens + 1) * length_of code.now * 2 ≤ length_of seen.old.marks }
+    requires failed { FailFrom (given tokens rows.now labels.now) code.now 0 seen.old.marks }
+    requires fresh { seen.old.steps + unset seen.old ≤ (tokens + 1) * length_of code.now * 2 }
+    ensures found { IfOk result (λ found.
         AreFound (given tokens rows.now labels.now) code.now found.items) }
+    ensures counted { OnOk result (
+        seen.new.steps ≤ STATE_VISITS * (length_of code.now * (tokens + 1))) }
 {
     let mut matches = Vec::new(alloc);
     let mut at = 0;
@@ -213,22 +230,12 @@ fn table_size(tokens: usize, size: usize) -> usize
     (tokens + 1) * size * 2
 }
 
-/// So many marks, none of which is set.
-fn clear_marks(seen: &mut Vec<bool>, count: usize) -> Result<(), NoMemory>
-    ensures len { OnOk result (vec_len seen.new ≡ count) }
-    ensures clear { OnOk result ((n : ℕ) → slice_index_or seen.new.items n false ≡ false) }
-{
-    seen.clear();
-    seen.resize(count, false)?;
-    Ok(())
-}
-
 /// The room that scans work in. Who keeps it from one scan to the next takes memory for matches
 /// alone, most of the time.
 #[derive(Drop)]
 pub struct Scanner {
-    /// Whether a state was taken up: two for each instruction, at each place.
-    seen: Vec<bool>,
+    /// Which states were taken up: two for each instruction, at each place.
+    seen: Marks,
     /// Where captures opened and closed on the way that is being tried.
     trail: Vec<Event>,
     /// The ways that are still to be tried, the preferred one last.
@@ -239,10 +246,18 @@ impl Scanner {
     /// Room that is still empty.
     pub fn new(alloc: Global) -> Scanner {
         Scanner {
-            seen: Vec::new(alloc),
+            seen: Marks::new(alloc),
             trail: Vec::new(alloc),
             threads: Vec::new(alloc),
         }
+    }
+
+    /// How many states the last scan took up. A start at which the pattern's first token does not
+    /// stand counts as one: its test.
+    pub fn steps(&self) -> usize
+        ensures { result ≡ steps_of self.now }
+    {
+        self.seen.steps()
     }
 
     /// The matches of the program's pattern in a sentence of so many tokens, in their order.
@@ -250,6 +265,8 @@ impl Scanner {
     /// The table has, from the row `first` on, the truths of what the pattern asks, in the order of
     /// its text. The spans of the sentence have these labels, of which the index was made. Want of
     /// memory is the only error.
+    ///
+    /// It takes a number of steps that grows as the program times the sentence.
     pub fn scan(
         &mut self,
         alloc: Global,
@@ -263,13 +280,15 @@ impl Scanner {
         requires few { length ≤ SENTENCE_TOKENS }
         requires rows { first ≤ length_of columns.now.rows }
         requires index { IsSpanIndex labels.now index.now }
-        ensures { IfOk result (λ found.
+        ensures found { IfOk result (λ found.
             AreMatchesOf program.now length columns.now.rows first labels.now found.items) }
+        ensures cost { OnOk result (
+            steps_of self.new ≤ STATE_VISITS * states program.now length) }
     {
         let code = program.code.get();
         let tokens = length as usize;
         let rows = &columns.rows.get()[first..];
-        clear_marks(&mut self.seen, table_size(tokens, code.len()))?;
+        self.seen.reset(table_size(tokens, code.len()))?;
         scan_rows(
             alloc,
             code,

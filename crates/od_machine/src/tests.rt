@@ -218,21 +218,44 @@ fn room_is_kept_and_the_table_is_lent(rt: HostRuntime) -> Result<(), Fail> {
     Ok(())
 }
 
-/// `a*? b` and `(a|a)* b` on 2,000 tokens, which would not end if each way were tried.
-#[test]
-fn a_long_sentence_has_few_states(rt: HostRuntime) -> Result<(), Fail> {
-    let alloc = rt.alloc();
+/// So many a.
+fn letters(alloc: Global, count: u32) -> Result<String, NoMemory> {
     let mut sentence = String::new(alloc);
-    for _k in 1..SENTENCE_TOKENS {
+    for _k in 0..count {
         sentence.push('a')?;
     }
-    let lazy = Surface::Seq(two(alloc, any_number(alloc, true)?, letter())?);
+    Ok(sentence)
+}
+
+/// `a*? b`.
+fn lazy_then_letter(alloc: Global) -> Result<Surface, NoMemory> {
+    Ok(Surface::Seq(two(alloc, any_number(alloc, true)?, letter())?))
+}
+
+/// `(a|a)* b`.
+fn either_then_letter(alloc: Global) -> Result<Surface, NoMemory> {
     let either = Surface::Alt(two(alloc, letter(), letter())?);
-    let twice = repeat(alloc, either, 0, None, false)?;
-    let twice = Surface::Seq(two(alloc, twice, letter())?);
+    let many = repeat(alloc, either, 0, None, false)?;
+    Ok(Surface::Seq(two(alloc, many, letter())?))
+}
+
+/// `b a a`.
+fn three_letters(alloc: Global) -> Result<Surface, NoMemory> {
+    let mut parts = two(alloc, letter(), letter())?;
+    parts.push(letter())?;
+    Ok(Surface::Seq(parts))
+}
+
+/// Patterns that would not end if each way were tried.
+#[test]
+fn a_long_sentence_is_scanned_to_its_end(rt: HostRuntime) -> Result<(), Fail> {
+    let alloc = rt.alloc();
+    let mut sentence = letters(alloc, SENTENCE_TOKENS - 1)?;
+    let lazy = lazy_then_letter(alloc)?;
+    let either = either_then_letter(alloc)?;
     assert_eq!(rt; spans(alloc, &lazy, "ab", sentence.as_str(), &[])?.len(), 0);
     assert_eq!(rt;
-        spans(alloc, &twice, "aab", sentence.as_str(), &[])?.len(),
+        spans(alloc, &either, "aab", sentence.as_str(), &[])?.len(),
         0
     );
     sentence.push('b')?;
@@ -242,8 +265,39 @@ fn a_long_sentence_has_few_states(rt: HostRuntime) -> Result<(), Fail> {
         all.as_slice()
     );
     assert_eq!(rt;
-        spans(alloc, &twice, "aab", sentence.as_str(), &[])?.as_slice(),
+        spans(alloc, &either, "aab", sentence.as_str(), &[])?.as_slice(),
         all.as_slice()
     );
+    Ok(())
+}
+
+/// How many steps a scan takes of a sentence that is all a; none of one that is too long.
+fn steps(alloc: Global, pattern: &Surface, asked: &str, tokens: u32) -> Result<usize, NoMemory> {
+    if tokens > SENTENCE_TOKENS {
+        return Ok(0);
+    }
+    let program = compile(alloc, pattern)?;
+    let sentence = letters(alloc, tokens)?;
+    let columns = columns(alloc, asked, sentence.as_str())?;
+    let index = SpanIndex::new(alloc);
+    let mut scanner = Scanner::new(alloc);
+    scanner.scan(alloc, &program, tokens, &columns, 0, &[], &index)?;
+    Ok(scanner.steps())
+}
+
+/// Of the 5 instructions of the first pattern 3 are reached at the first place and at the end, and
+/// each once at the others (one of them with and without a token taken, the last one never). Of
+/// the 11 of the second one 7 and 9, and 11. The third one's first token never stands.
+#[test]
+fn no_state_is_taken_up_twice_and_a_first_test_that_fails_is_all(
+    rt: HostRuntime,
+) -> Result<(), Fail> {
+    let alloc = rt.alloc();
+    let lazy = lazy_then_letter(alloc)?;
+    assert_eq!(rt; steps(alloc, &lazy, "ab", 2000)?, 3 + 5 * 1999 + 3);
+    let either = either_then_letter(alloc)?;
+    assert_eq!(rt; steps(alloc, &either, "aab", 2000)?, 7 + 11 * 1999 + 9);
+    let three = three_letters(alloc)?;
+    assert_eq!(rt; steps(alloc, &three, "baa", 2000)?, 2000);
     Ok(())
 }

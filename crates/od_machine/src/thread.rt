@@ -13,6 +13,15 @@ pub struct Thread {
     pub events: usize,
 }
 
+/// What becomes of a thread that is taken up.
+#[derive(Clone, Copy, Drop)]
+pub enum Step {
+    /// It is at the end of the pattern.
+    AtEnd,
+    /// This thread goes on; none: the first of those that wait.
+    Goes(Option<Thread>),
+}
+
 /// What the trail keeps of a way.
 #[derive(Clone, Copy, Drop)]
 pub enum Event {

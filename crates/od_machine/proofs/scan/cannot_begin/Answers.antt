@@ -3,15 +3,15 @@ use Rattle.std.specs.Prelude.{slice_get, Some}
 use Rattle.std.proofs.lemmas.Option.{slice_get_read}
 use Rattle.od_machine.specs.Inputs.{given}
 use Rattle.od_machine.specs.declared.instruction.Instruction.TheVariants.{Take, Open}
-use Rattle.od_machine.proofs.Marks.{no_begin, begin_behind}
+use Rattle.od_machine.proofs.Visiting.{no_begin, begin_behind}
 use Rattle.od_machine.proofs.scan.cannot_begin.Goals as goal
 
 unset : (b : Bool) → not b ≡ true → b ≡ false
 unset true h = sym h
 unset false h = refl
 
-pub returns-in-Take : goal.returns-in-Take
-returns-in-Take c = λ h tokens labels.
+pub returns-in-Take-clause-never : goal.returns-in-Take-clause-never
+returns-in-Take-clause-never c = λ h tokens labels.
     let code = c.args.code.now in
     let pc = c.loop-instruction.instruction-index in
     let inside : pc < length code = omega arith in

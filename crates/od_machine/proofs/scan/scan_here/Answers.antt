@@ -6,14 +6,14 @@ use Rattle.od_machine.specs.Inputs.{given, outcome, FailBehind}
 use Rattle.od_machine.specs.declared.instruction.Instruction.{Instruction}
 use Rattle.std.specs.Prelude.{Option, Bool}
 use Rattle.od_machine.proofs.Search.{replay-some, replay-end}
-use Rattle.od_machine.proofs.Marks.{fail_cleared}
+use Rattle.od_machine.proofs.Visiting.{fail_cleared}
 use Rattle.od_machine.proofs.Founds.{step_none, step_empty, step_match}
 use Rattle.od_machine.proofs.scan.scan_here.Goals as goal
 
 pub returns-then-cannot_begin-clause-scanned : goal.returns-then-cannot_begin-clause-scanned
 returns-then-cannot_begin-clause-scanned c = λ u p f.
     step_none (given c.args.tokens c.args.rows.now c.args.labels.now) c.args.code.now u p f c.args.matches.now.items c.args.at c.requires.inside
-    (c.cannot_begin.ensures c.if-cannot_begin.true c.args.tokens c.args.labels.now)
+    (c.cannot_begin.ensures.never c.if-cannot_begin.true c.args.tokens c.args.labels.now)
 
 pub returns-in_default-clause-scanned : goal.returns-in_default-clause-scanned
 returns-in_default-clause-scanned c = λ u p f.
@@ -75,4 +75,4 @@ returns-clause-scanned c = λ u p f.
 pub returns-clause-failed : goal.returns-clause-failed
 returns-clause-failed c =
     let b = behind _ _ _ _ _ _ c.in-Some.is c.in_ok-end.ensures.failed in
-    fail_cleared _ _ c.in-Some.end c.attempt.new.seen.items _ b.2 c.clear_place.ensures.clears
+    fail_cleared _ _ c.in-Some.end c.attempt.new.seen.marks _ b.2 c.clear_place.ensures.clears

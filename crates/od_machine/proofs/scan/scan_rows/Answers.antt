@@ -3,8 +3,8 @@ use Rattle.std.proofs.lemmas.List.{append-nil}
 use Rattle.od_matching.proofs.Matching.Steps.{scan_at-end}
 use Rattle.od_machine.proofs.scan.scan_rows.Goals as goal
 
-pub returns : goal.returns
-returns c = λ u p f.
+pub returns-clause-found : goal.returns-clause-found
+returns-clause-found c = λ u p f.
     sym (append-nil c.places.matches.items)
     ∙ ap (λ z. c.places.matches.items ++ z) (sym (scan_at-end u p c.places.at (omega (arith, f.tokens))))
-    ∙ c.places.invariant.2 u p f
+    ∙ c.places.invariant.4 u p f
