@@ -1,0 +1,4 @@
+//! Cursors over posting lists.
+#![tactic(auto)]
+
+pub mod cursor;

@@ -1,0 +1,5 @@
+use Rattle.od_stored.proofs.Examples as cases
+use Rattle.od_stored.proofs.stored_laws.stored_examples.Goals as goal
+
+pub returns : goal.returns
+returns c = cases.stored_examples
