@@ -1,6 +1,6 @@
 -- Lines, their texts, and blocks of lines.
-use Rattle.std.proofs.Common.{◌≡◌, ℕ, zero, suc, ◌+◌, ◌-◌, ◌<◌, ◌≤◌, List, [], ◌∷◌, ◌++◌, length, get_or, take, drop, Bool, true, false, refl, sym, ap, ◌∙◌, subst, arith, add-one, append_assoc, length-append, length-drop}
-use Rattle.std.specs.Prelude.{◌==◌, ◌&&◌, nat_lt, not, slice_index, Option, Some, None, if◌then◌else◌}
+use Rattle.std.proofs.Common.{◌≡◌, ℕ, zero, suc, ◌+◌, ◌-◌, ◌<◌, ◌≤◌, List, [], ◌∷◌, ◌++◌, length, get_or, take, drop, Bool, true, false, refl, sym, ap, ◌∙◌, arith, add-one, append_assoc, length-append, length-drop}
+use Rattle.std.specs.Prelude.{◌==◌, nat_lt, not, slice_index, Some, None, if◌then◌else◌}
 use Rattle.std.specs.Io.BufRead.{ends_with_byte, strip_last}
 use Rattle.std.specs.List.{concat, position, position_or_len}
 use Rattle.std.specs.Str.{IsUtf8, is_utf8}

@@ -1,6 +1,6 @@
 -- Words, lines one after another, and their first fault.
-use Rattle.std.proofs.Common.{◌≡◌, ℕ, zero, suc, ◌+◌, ◌<◌, ◌≤◌, List, [], ◌∷◌, length, drop, Bool, true, false, refl, sym, ap, ◌∙◌, subst, arith}
-use Rattle.std.specs.Prelude.{Option, Some, None, Result, Ok, Err, nat_lt}
+use Rattle.std.proofs.Common.{◌≡◌, ℕ, zero, suc, ◌+◌, ◌<◌, ◌≤◌, List, [], ◌∷◌, length, drop, true, false, refl, sym, ap, ◌∙◌, subst, arith}
+use Rattle.std.specs.Prelude.{Some, None, Result, Ok, Err, nat_lt}
 use Rattle.std.specs.Borrow.{Bor}
 use Rattle.od_language.specs.Machine.{◌>>=◌}
 use Rattle.od_order.specs.declared.keyword.Keyword.{Keyword}
@@ -8,7 +8,7 @@ use Rattle.od_order.specs.declared.script.Script.{Script}
 use Rattle.od_order.specs.declared.script.TheConstants.{SCRIPT_BYTES}
 use Rattle.od_order.specs.declared.script_kind.ScriptKind.TheVariants.{NotUtf8, TooLong}
 use Rattle.od_order.specs.Lines.{whole_lines, line_text, says_nothing, has_bad_byte}
-use Rattle.od_order.specs.Scripts.{ScriptLine, Reading, script_lines, script_after, script_of, nothing_said, misplaced, unless_fault, take_saying, take_statement, take_keyword, take_line}
+use Rattle.od_order.specs.Scripts.{Reading, script_lines, script_after, script_of, nothing_said, misplaced, unless_fault, take_saying, take_statement, take_keyword, take_line}
 use Rattle.od_order.specs.Statements.{Statement, keyword_in, statement_of, block_count, block_with, block_behind}
 use Rattle.od_script.specs.declared.script.ScriptFault.{ScriptFault}
 use Rattle.od_script.specs.declared.script.ScriptFault.TheVariants.{Bad, NoMemory}

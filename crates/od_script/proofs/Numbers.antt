@@ -1,6 +1,6 @@
 -- Numbers, digit by digit.
-use Rattle.std.proofs.Common.{◌≡◌, ℕ, zero, suc, ◌+◌, ◌-◌, ◌*◌, ◌^◌, ◌<◌, ◌≤◌, List, ◌∷◌, length, get_or, drop, drop-cons, add-zero, add-suc, add-one, true, false, refl, arith}
-use Rattle.std.specs.Prelude.{Option, None}
+use Rattle.std.proofs.Common.{◌≡◌, ℕ, zero, suc, ◌+◌, ◌-◌, ◌*◌, ◌^◌, ◌<◌, ◌≤◌, List, length, get_or, drop, drop-cons, add-zero, add-suc, add-one, true, false, refl, arith}
+use Rattle.std.specs.Prelude.{None}
 use Rattle.std.proofs.Math.Nat.{pow-suc}
 use Rattle.od_order.specs.Names.{is_digit, digits_from}
 

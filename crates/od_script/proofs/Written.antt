@@ -1,6 +1,6 @@
 -- A script that is written reads back as itself.
-use Rattle.std.proofs.Common.{◌≡◌, ℕ, ◌+◌, ◌<◌, ◌≤◌, List, [], ◌∷◌, ◌++◌, length, map, flat_map, Bool, false, refl, sym, ap, ◌∙◌, subst, arith, append_assoc, append-nil, length-append}
-use Rattle.std.specs.Prelude.{nat_lt, nat_le, codes, Result, Ok, Err}
+use Rattle.std.proofs.Common.{◌≡◌, ℕ, ◌+◌, ◌≤◌, List, [], ◌∷◌, ◌++◌, length, map, flat_map, false, refl, sym, ap, ◌∙◌, subst, arith, append_assoc, append-nil, length-append}
+use Rattle.std.specs.Prelude.{nat_le, codes, Ok, Err}
 use Rattle.std.specs.List.{concat}
 use Rattle.std.proofs.lemmas.Bool.{le-ltb, lt-ltb, lt-leb}
 use Rattle.std.proofs.lemmas.List.Sums.{sum_by-cons, sum_by_push}
@@ -11,7 +11,7 @@ use Rattle.od_order.specs.declared.script.Script.{Script}
 use Rattle.od_order.specs.declared.script.TheConstants.{SCRIPT_BYTES, HEADS, CLIENTS, ORDERS}
 use Rattle.od_order.specs.declared.script_kind.ScriptKind.{ScriptKind}
 use Rattle.od_order.specs.Lines.{whole_lines}
-use Rattle.od_order.specs.Scripts.{Reading, nothing_said, has_head, order_count, with_order, script_lines, script_after, script_of}
+use Rattle.od_order.specs.Scripts.{Reading, has_head, order_count, with_order, script_lines, script_after, script_of}
 use Rattle.od_script.specs.declared.script.ScriptFault.{ScriptFault}
 use Rattle.od_script.specs.declared.script.ScriptFault.TheVariants.{Bad, NoMemory}
 use Rattle.od_script.specs.Faults.{IsScriptFault}

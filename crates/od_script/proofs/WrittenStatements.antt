@@ -1,8 +1,7 @@
 -- One written line with its block, and the script that it leaves.
-use Rattle.std.proofs.Common.{◌≡◌, ℕ, zero, suc, ◌+◌, ◌^◌, ◌<◌, ◌≤◌, List, [], ◌∷◌, ◌++◌, length, take, drop, Bool, true, false, refl, sym, ap, ◌∙◌, subst, arith, append_assoc, append-nil, length-append}
-use Rattle.std.specs.Prelude.{◌==◌, ◌&&◌, nat_eq, nat_lt, nat_le, not, codes, decimal, Option, Some, None, Result, Ok, Err, if◌then◌else◌}
-use Rattle.std.specs.Io.BufRead.{ends_with_byte}
-use Rattle.std.specs.List.{concat, join_with_byte, list_all, starts_with}
+use Rattle.std.proofs.Common.{◌≡◌, ℕ, ◌+◌, ◌^◌, ◌<◌, ◌≤◌, List, [], ◌∷◌, ◌++◌, length, Bool, true, false, refl, sym, ap, ◌∙◌, subst, arith, append_assoc, append-nil, length-append}
+use Rattle.std.specs.Prelude.{◌==◌, ◌&&◌, nat_eq, nat_lt, nat_le, not, codes, decimal, Some, None, Ok, if◌then◌else◌}
+use Rattle.std.specs.List.{join_with_byte, list_all, starts_with}
 use Rattle.std.specs.Str.{IsUtf8, is_utf8}
 use Rattle.std.proofs.lemmas.Bool.{le-ltb, ltb-true, ne_eqb, or_from}
 use Rattle.std.proofs.lemmas.List.Folds.{list_all-append}
@@ -13,7 +12,6 @@ use Rattle.od_language.specs.Query.{words_of}
 use Rattle.od_pattern.specs.declared.grammar.GrammarKind.{GrammarKind}
 use Rattle.od_pattern.specs.declared.grammar.GrammarKind.TheVariants.{RuleFile, Query}
 use Rattle.od_pattern.specs.declared.grammar.Head.{Head}
-use Rattle.od_command.specs.declared.history.Command.{Command}
 use Rattle.od_command.specs.declared.history.Command.TheVariants.{AddDoc, OpenSession, Step, Resume, Print, Release, Settle}
 use Rattle.od_order.specs.declared.keyword.Keyword.{Keyword}
 use Rattle.od_order.specs.declared.keyword.Keyword.TheVariants as keyword
@@ -21,11 +19,10 @@ use Rattle.od_order.specs.declared.script.Order.{Order}
 use Rattle.od_order.specs.declared.script.Order.TheVariants.{One, Run}
 use Rattle.od_order.specs.declared.script.Script.{Script}
 use Rattle.od_order.specs.declared.script.TheConstants.{SCRIPT_BYTES, NUMBER_DIGITS, HEADS, CLIENTS, ORDERS}
-use Rattle.od_order.specs.declared.script_kind.ScriptKind.{ScriptKind}
 use Rattle.od_order.specs.declared.script_kind.ScriptKind.TheVariants.{NoClient}
 use Rattle.od_order.specs.Lines.{whole_lines, line_text, says_nothing, has_bad_byte}
-use Rattle.od_order.specs.Names.{is_name, script_number}
-use Rattle.od_order.specs.Scripts.{ScriptLine, Reading, script_lines, script_after, has_client, has_head, order_count, with_order, with_head, with_rules, misplaced, block_at, take_statement, take_keyword, take_line}
+use Rattle.od_order.specs.Names.{is_name}
+use Rattle.od_order.specs.Scripts.{ScriptLine, script_lines, script_after, has_client, has_head, order_count, with_order, with_head, with_rules, misplaced, block_at, take_statement, take_keyword, take_line}
 use Rattle.od_order.specs.Statements.{first_word, keyword_of, keyword_in, begins_head, begins_order, Statement, rules, query, client, document, order, Saying, alone, naming, counting, opening, querying, query_parts, statement_of, block_count, block_behind}
 use Rattle.od_script.specs.Readers.{line_at}
 use Rattle.od_script.specs.Written.{line_of, line_count, block_bytes, grammar_bytes, order_bytes, ends_a_line, is_grammar_text, IsOrder}
@@ -36,7 +33,7 @@ use Rattle.od_script.proofs.WrittenWords.{IsWord, name_is_word, word_utf8, word_
 
 -- ## From one script to the next
 
--- behind one script, a statement makes another of it, whatever the number of its line and what follows it
+-- behind one script, a statement makes another of it, whatever its line's number and what follows
 abbrev pub Makes : Script → List ℕ → Script → Type 0
 Makes s bytes t = (number : ℕ) (rest : List ℕ) → EndsBefore bytes rest → (next : ℕ) × (script_after s (script_lines number 0 (whole_lines (bytes ++ rest))) ≡ script_after t (script_lines next 0 (whole_lines rest)))
 

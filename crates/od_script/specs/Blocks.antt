@@ -1,5 +1,5 @@
 -- Lines and blocks, as they are taken from bytes.
-use Rattle.std.specs.Prelude.{◌≡◌, ℕ, ◌+◌, ◌<◌, ◌≤◌, List, [], ◌∷◌, ◌++◌, length, take, drop, Option, Some, None, Bool, true, false, nat_lt}
+use Rattle.std.specs.Prelude.{◌≡◌, ℕ, ◌+◌, ◌<◌, ◌≤◌, List, [], ◌∷◌, ◌++◌, length, take, drop, Option, Some, None, true, false, nat_lt}
 use Rattle.std.specs.Borrow.{Bor}
 use Rattle.std.specs.List.{concat}
 use Rattle.od_order.specs.Lines.{whole_lines}

@@ -1,10 +1,10 @@
 -- What the reader of a script keeps, and what one line leaves.
-use Rattle.std.specs.Prelude.{◌≡◌, ℕ, ◌+◌, ◌<◌, ◌≤◌, List, [], ◌∷◌, length, map, drop, Result, Ok, Err}
+use Rattle.std.specs.Prelude.{◌≡◌, ℕ, ◌+◌, ◌≤◌, List, length, map, drop, Result, Ok, Err}
 use Rattle.std.specs.Borrow.{Bor}
 use Rattle.od_pattern.specs.declared.grammar.Head.{Head}
 use Rattle.od_order.specs.declared.script.Order.{Order}
 use Rattle.od_order.specs.declared.script.Script.{Script}
-use Rattle.od_order.specs.declared.script.TheConstants.{HEADS, CLIENTS, ORDERS}
+use Rattle.od_order.specs.declared.script.TheConstants.{ORDERS}
 use Rattle.od_order.specs.Lines.{whole_lines}
 use Rattle.od_order.specs.Scripts.{ScriptLine, Reading, order_count}
 use Rattle.od_script.specs.declared.script.ScriptFault.{ScriptFault}

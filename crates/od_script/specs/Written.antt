@@ -86,7 +86,7 @@ abbrev pub IsOrder : Order → Type 0
 IsOrder (One command) = IsProper command × (has_short_limit command ≡ true)
 IsOrder (Run session) = is_name session ≡ true
 
--- each but the last ends with a line feed; that of a block may lack it
+-- each but the last ends with a line feed; only a block could lack it
 abbrev pub AreApart : List (List ℕ) → Type 0
 AreApart [] = Unit {0}
 AreApart (statement ∷ []) = Unit {0}

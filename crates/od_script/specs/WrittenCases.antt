@@ -1,5 +1,5 @@
 -- Worked cases: scripts, and the bytes that they are written as.
-use Rattle.std.specs.Prelude.{◌≡◌, List, [], ◌∷◌, ◌++◌, codes}
+use Rattle.std.specs.Prelude.{◌≡◌, [], ◌∷◌, ◌++◌, codes}
 use Rattle.od_pattern.specs.declared.grammar.GrammarKind.TheVariants.{RuleFile, Query}
 use Rattle.od_command.specs.declared.history.Command.TheVariants.{AddDoc, OpenSession, Resume, Settle}
 use Rattle.od_order.specs.declared.script.Order.TheVariants.{One, Run}

@@ -35,17 +35,20 @@ impl From<NoMemory> for ScriptFault {
     }
 }
 
-/// Reads a script in one pass, or names its first fault. Documents and patterns are taken as they stand:
-/// neither is read here.
+/// Reads a script in one pass, or names its first fault. Documents and patterns are taken as they
+/// stand: neither is read here.
 ///
-/// A script that is written out reads back as itself: its grammars in order, then each client's line and
-/// orders, words parted by single spaces, numbers in decimal, each line ended by a line feed. This holds of
-/// every script that can be written so: names are names, a limit is below 10^9, a pattern has no line feed
-/// and does not end with a carriage return, a rule file or a document that is not the last thing written
-/// ends with a line feed, and all of it is no more than a script may have. Only memory may be refused.
+/// A script that is written out reads back as itself, unless memory is refused. It is written so:
+/// its grammars in order, then client by client the line and the orders; words are parted by single
+/// spaces, numbers are in decimal, and a line feed ends each line. So every script can be written
+/// of no more grammars, clients, orders and bytes than are allowed, in which no two grammars have
+/// one name, names are names and limits are below 10^9, rule files and patterns are UTF-8, no
+/// pattern has a line feed or ends with a carriage return, and each rule file and document is empty
+/// or ends with a line feed; what stands last in the script needs none.
 pub fn read_script(alloc: Global, bytes: &[u8]) -> Result<Script, ScriptFault>
     ensures ok { IfOk result (λ script. script_of bytes.now ≡ Ok script) }
     ensures fault { IfErr result (IsScriptFault bytes.now) }
+    // What is written reads back, but that memory may be refused.
     ensures back { (script : SpecScript) → IsWritable script → bytes.now ≡ script_bytes script
         → ReadsBack script result }
 {

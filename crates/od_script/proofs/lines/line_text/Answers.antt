@@ -1,7 +1,7 @@
 use Rattle.std.proofs.Common.{◌≡◌, ◌++◌, ◌∷◌, [], arith}
 use lib.Utf8.{encode}
 use Rattle.std.proofs.lemmas.Str.Pattern.{strip_suffix_char}
-use Rattle.od_script.proofs.Blocks.{unended_text, ended_text, returned_text}
+use Rattle.od_script.proofs.Blocks.{unended_text, ended_text}
 use Rattle.od_script.proofs.lines.line_text.Goals as goal
 
 pub returns-in_default : goal.returns-in_default

@@ -1,4 +1,4 @@
-use Rattle.std.proofs.Common.{◌≡◌, ◌<◌, ◌-◌, ◌∙◌, zero, suc, ap, length, slice_set, arith}
+use Rattle.std.proofs.Common.{◌≡◌, ◌<◌, ◌-◌, ◌∙◌, suc, ap, length, slice_set, arith}
 use Rattle.std.proofs.lemmas.Bool.{ltb-true}
 use Rattle.od_order.specs.Scripts.{with_order}
 use Rattle.od_script.proofs.Heads.{ordered}
