@@ -4,15 +4,15 @@ use Rattle.std.specs.Borrow.{Bor}
 use Rattle.std.specs.Char.{encode_utf8, len_utf8, is_whitespace}
 use Rattle.std.specs.List.{list_all, filter}
 use Rattle.std.specs.Str.{chars, IsUtf8, NonePass, NoCharPasses, IsCharBoundary, encode_utf8_all, skip_leading_whitespace}
-use Rattle.std.specs.Str.Pattern.{FindsChar, HasCharAt}
+use Rattle.std.specs.Str.Pattern.{HasCharAt}
 use Rattle.std.proofs.lemmas.Bool.{ne_eqb, eqb-true}
 use Rattle.std.proofs.lemmas.Str.{chars_from_encodes, chars-append, chars_past_char, chars-nil, encode_ascii, length-encode, len_utf8_bounds, IsUtf8-take, IsUtf8-drop, IsCharBoundary-before_ascii}
 use Rattle.std.proofs.lemmas.Str.Pattern.{IsSplitOnceResult, split_parts, drop_at_char}
 use Rattle.od_language.specs.Lexing.{size_of}
 use Rattle.od_lex.proofs.Sizes.{bytes_of}
-use Rattle.od_syntax.specs.Events.{Line, begun_with, lines, Cut, headed_by, cut_from}
+use Rattle.od_syntax.specs.Events.{Line, begun_with, lines, headed_by, cut_from}
 use Rattle.od_event_text.specs.declared.lines.Part.{Part}
-use Rattle.od_event_text.specs.Parts.{IsCut, IsCutAt, ends, line_of, own_of, owned, IsFirstLine, IsNext, IsNextLine, cut_of, IsParted}
+use Rattle.od_event_text.specs.Parts.{IsCut, IsCutAt, ends, line_of, own_of, owned, IsFirstLine, IsNext, cut_of}
 
 -- ## White space alone
 

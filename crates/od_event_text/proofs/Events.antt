@@ -1,7 +1,6 @@
 -- Event patterns, line by line.
-use Rattle.std.proofs.Common.{◌≡◌, ℕ, zero, suc, ◌+◌, ◌<◌, ◌≤◌, Bool, true, false, nat_lt, if◌then◌else◌, List, [], ◌∷◌, ◌++◌, map, length, Option, Some, None, Result, Ok, Err, refl, sym, ◌∙◌, ap, ap₂, subst, arith, append_assoc, append-nil, String, IfOk}
+use Rattle.std.proofs.Common.{◌≡◌, ℕ, ◌+◌, Bool, true, false, if◌then◌else◌, List, [], ◌∷◌, ◌++◌, map, length, Option, Some, None, Result, Ok, Err, refl, sym, ◌∙◌, ap, ap₂, subst, arith, append_assoc, append-nil, String, IfOk}
 use Rattle.std.specs.HashSet.{HashSet, contains_text}
-use Rattle.std.specs.Option.{option_map}
 use Rattle.std.specs.Str.{chars, IsUtf8}
 use Rattle.std.proofs.lemmas.List.{map-append}
 use Rattle.od_pattern.specs.declared.pattern.Surface.{Surface}
@@ -17,11 +16,11 @@ use Rattle.od_language.specs.Lexing.{size_of}
 use Rattle.od_language.specs.Machine.{◌>>=◌, GoesOn}
 use Rattle.od_language.specs.Whole.{OneOf}
 use Rattle.od_language.specs.WholeRuns.{Verdict, sized}
-use Rattle.od_syntax.specs.Events.{captures, Line, own_lines, Head, pieces, head_of, is_trigger, trigger_cut, trigger_line, argument_cut, behind_head, argument_line, argument, Cut, cut_from, IsEventText, IsEventTextFault}
+use Rattle.od_syntax.specs.Events.{captures, Line, Head, pieces, head_of, is_trigger, trigger_cut, trigger_line, argument_cut, behind_head, argument_line, argument, cut_from, IsEventText, IsEventTextFault}
 use Rattle.od_syntax.specs.EventVerdicts.{trigger_by, argument_if, argument_by, arguments_of, event_lines, event_of}
 use Rattle.od_syntax.specs.Rules.{is_one_of}
-use Rattle.od_syntax.specs.Sizes.{counted, path_size, paths_size, surface_size, event_size}
-use Rattle.od_syntax.specs.Verdicts.{surface_at, path_at}
+use Rattle.od_syntax.specs.Sizes.{counted, path_size, paths_size, event_size}
+use Rattle.od_syntax.specs.Verdicts.{path_at}
 use Rattle.od_syntax.proofs.Events.{events_are_computed}
 use Rattle.od_lex.proofs.Sizes.{bytes_of}
 use Rattle.od_path.proofs.Sizes.{counted_sum}
@@ -32,7 +31,7 @@ use Rattle.od_event_text.specs.declared.head.Head as program
 use Rattle.od_event_text.specs.declared.lines.Part.{Part}
 use Rattle.od_event_text.specs.Answers.{pathed, ruled}
 use Rattle.od_event_text.specs.Heads.{shown}
-use Rattle.od_event_text.specs.Parts.{ends, line_of, own_of, cut_of}
+use Rattle.od_event_text.specs.Parts.{line_of, cut_of}
 
 -- a value whose fault is another's
 abbrev failed : {A : Type 0} → PatternFault → Result A PatternFault

@@ -1,9 +1,8 @@
 -- The heads of lines, as the program reads them.
-use Rattle.std.specs.Prelude.{◌≡◌, ℕ, Bool, false, not, List, [], ◌∷◌, drop, Option, Some, None, codes, if◌then◌else◌}
+use Rattle.std.specs.Prelude.{◌≡◌, ℕ, Bool, false, List, [], ◌∷◌, drop, Option, Some, None, if◌then◌else◌}
 use Rattle.std.specs.Borrow.{Bor}
 use Rattle.std.specs.Char.{is_whitespace}
 use Rattle.od_language.specs.Identifier.{is_identifier}
-use Rattle.od_pattern.specs.declared.rule.Many.{Many}
 use Rattle.od_syntax.specs.Events.{pieces, many_of, head_with, head_behind}
 use Rattle.od_syntax.specs.Events as events
 use Rattle.od_event_text.specs.declared.head.Head.{Head}

@@ -15,6 +15,7 @@ ghost use Rattle.od_surface.specs.Answers.{Tells, GivesValue};
 ghost use Rattle.od_syntax.specs.Events.{captures, own_lines, trigger_line, argument_line, IsEventText, IsEventTextFault};
 ghost use Rattle.od_syntax.specs.EventVerdicts.{trigger_by, argument_by, arguments_of, event_lines, event_of};
 ghost use Rattle.od_syntax.specs.Sizes.{counted, surface_size, path_size, paths_size, event_size};
+ghost use Rattle.od_written.specs.Events.{IsWritableEvent, AreEventLines, EventKeeps};
 ghost use Rattle.od_event_text.specs.Answers.{IsTriggerText, IsArgumentText, pathed, ruled};
 ghost use Rattle.od_event_text.specs.Heads.{shown};
 ghost use Rattle.od_event_text.specs.Parts.{ends, line_of, own_of};
@@ -257,6 +258,11 @@ pub fn parse_event(alloc: Global, text: &str) -> Result<EventRule, PatternFault>
     ensures only_value { (r : EventRule) → IsEventText (chars_in text.now) r → GivesValue result r }
     ensures only_fault { (at : ℕ) (k : PatternKind) → IsEventTextFault (chars_in text.now) at k →
         Refuses result at k }
+    // A rule that is written out in lines reads back as itself, where its patterns keep the rules
+    // and it is not too big.
+    ensures reads_back { (r : EventRule) → IsWritableEvent r →
+        AreEventLines (own_lines (chars_in text.now)) r → EventKeeps r →
+        event_size r ≤ GREATEST_SIZE → GivesValue result r }
     // One of the two always is, and never both.
     ensures one_answer { OneOf (IsEventText (chars_in text.now))
         (IsEventTextFault (chars_in text.now)) }

@@ -1,16 +1,21 @@
 //! Hops as whole texts.
-ghost use Rattle.std.specs.Prelude.{◌≡◌, ℕ, ◌+◌, ◌<◌, ◌≤◌, ◌^◌, List, [], ◌∷◌, drop, length, Option, Ok, Err, IfOk};
+ghost use Rattle.std.specs.Prelude.{◌≡◌, ℕ, ◌+◌, ◌<◌, ◌≤◌, ◌^◌, false, List, [], ◌∷◌, drop, length, Option, Ok, Err, IfOk};
 ghost use Rattle.std.specs.Str.{chars as chars_in};
 ghost use Rattle.od_pattern.specs.declared.rule.Hop.{Hop};
 ghost use Rattle.od_language.specs.declared.pattern_fault.PatternKind.{PatternKind};
+ghost use Rattle.od_language.specs.declared.limits.TheConstants.{PATTERN_SIZE};
 ghost use Rattle.od_language.specs.Answers.{IfBad, Refuses};
+ghost use Rattle.od_language.specs.FirstFault.{Keeps};
 ghost use Rattle.od_language.specs.Whole.{OneOf};
 ghost use Rattle.od_language.specs.WholeRuns.{to_the_end, sized as if_sized};
 ghost use Rattle.od_surface.specs.Answers.{Tells, GivesValue};
+ghost use Rattle.od_syntax.specs.Hops.{BreaksHop};
 ghost use Rattle.od_syntax.specs.HopVerdicts.{hop_at as verdict_at, hop_of as verdict_of, hop_start};
 ghost use Rattle.od_syntax.specs.Sizes.{hop_size, counted};
 ghost use Rattle.od_syntax.specs.Texts.{IsHopText, IsHopTextFault};
 ghost use Rattle.od_syntax.specs.Told.{told_apart, told};
+ghost use Rattle.od_written.specs.Hops.{hop_written, kinds_told, IsWritableHop};
+ghost use Rattle.od_written.specs.Texts.{HasLexemes};
 ghost use Rattle.od_hop.specs.Reading.{hop_run};
 
 use crate::joints::{Joined, hop_read};
@@ -114,6 +119,11 @@ pub fn parse_hop(alloc: Global, text: &str) -> Result<Hop, PatternFault>
     ensures only_value { (p : Hop) → IsHopText (chars_in text.now) p → GivesValue result p }
     ensures only_fault { (at : ℕ) (k : PatternKind) → IsHopTextFault (chars_in text.now) at k →
         Refuses result at k }
+    // A hop that is written out reads back as itself, where it keeps the rules and is not too big.
+    ensures reads_back { (p : Hop) → IsWritableHop p →
+        HasLexemes 0 (chars_in text.now) (hop_written p) →
+        Keeps BreaksHop (kinds_told false (hop_written p)) → hop_size p ≤ PATTERN_SIZE →
+        GivesValue result p }
     // One of the two always is, and never both.
     ensures one_answer { OneOf (IsHopText (chars_in text.now))
         (IsHopTextFault (chars_in text.now)) }

@@ -1,5 +1,5 @@
 -- What the parser answers is the path that stands there, or the first fault.
-use Rattle.std.proofs.Common.{◌≡◌, ℕ, ◌+◌, ◌-◌, ◌<◌, ◌≤◌, List, [], ◌∷◌, ◌++◌, length, drop, length-drop, Option, Some, None, Result, Ok, Err, refl, sym, ◌∙◌, ap, arith, IfOk}
+use Rattle.std.proofs.Common.{◌≡◌, ℕ, ◌+◌, ◌-◌, ◌<◌, ◌≤◌, List, [], ◌∷◌, ◌++◌, length, drop, length-drop, Option, Result, Ok, Err, refl, sym, ◌∙◌, ap, arith, IfOk}
 use Rattle.od_pattern.specs.declared.path.Path.{Path}
 use Rattle.od_language.specs.declared.pattern_fault.PatternKind.{PatternKind}
 use Rattle.od_language.specs.declared.pattern_fault.PatternFault.{PatternFault}
@@ -14,7 +14,7 @@ use Rattle.od_language.specs.Machine.{run as run_behind}
 use Rattle.od_language.proofs.Machine as reading
 use Rattle.od_language.proofs.Constraints.Closing.{rule_at}
 use Rattle.od_syntax.specs.Paths.{Paths}
-use Rattle.od_syntax.specs.PathMachine.{State, atom, whole, top, step, ended}
+use Rattle.od_syntax.specs.PathMachine.{atom, whole, top, step, ended}
 use Rattle.od_syntax.proofs.Paths.Closing.{reader}
 use Rattle.od_path.specs.Machine.{run, IsPathRead, IsPathFault, OnePath, IsPathFrom}
 

@@ -3,7 +3,6 @@ use Rattle.std.proofs.Common.{◌≡◌, ℕ, suc, ◌+◌, ◌-◌, Bool, true,
 use Rattle.od_pattern.specs.declared.pattern.Field.{Field}
 use Rattle.od_pattern.specs.declared.pattern.Constraint.{Constraint}
 use Rattle.od_pattern.specs.declared.path.Path.{Path}
-use Rattle.od_pattern.specs.declared.path.Path.TheVariants as path
 use Rattle.od_language.specs.declared.pattern_fault.PatternKind.{PatternKind}
 use Rattle.od_language.specs.declared.pattern_fault.PatternKind.TheVariants as kind
 use Rattle.od_language.specs.declared.lexeme.Lexeme.{Lexeme}
@@ -14,14 +13,14 @@ use Rattle.od_language.specs.Depth.{depth_behind, broken_rule}
 use Rattle.od_language.specs.Fields.{field_named}
 use Rattle.od_language.specs.declared.pattern_fault.PatternFault.{PatternFault}
 use Rattle.od_language.specs.declared.pattern_fault.PatternFault.TheVariants as fault
-use Rattle.od_language.specs.Machine.{◌>>=◌, Outcome, stopped, checked, either_way, GoesOn}
+use Rattle.od_language.specs.Machine.{◌>>=◌, stopped, checked, either_way, GoesOn}
 use Rattle.od_language.specs.ConstraintMachine.{Open, square, start, operand, named, equals, after, done, named_by}
 use Rattle.od_language.specs.ConstraintMachine as constraint
 use Rattle.od_syntax.specs.PathMachine.{Around, top, round, State, atom, label, inside, part, turned, listed, whole, in_order, any_of, step, carried, ended}
 use Rattle.od_syntax.specs.PathMachine as machine
 use Rattle.od_syntax.specs.StepsMachine.{group, group_start, closing, grouped}
 use Rattle.od_syntax.specs.StepsMachine as steps
-use Rattle.od_syntax.specs.Told.{Told, lexeme, steps_open, ToldLexeme, untold, told_of, told_from, told, in_constraint, leads_to_steps}
+use Rattle.od_syntax.specs.Told.{Told, lexeme, steps_open, untold, told_of, told_from, told, in_constraint, leads_to_steps}
 use Rattle.od_path.specs.Machine.{run}
 use Rattle.od_path.specs.Steps.{steps_run, closed, closed_by}
 use Rattle.od_path.proofs.Answers.{ended_there}

@@ -1,5 +1,5 @@
 -- Steps that the parser takes.
-use Rattle.std.proofs.Common.{◌≡◌, ℕ, ◌+◌, ◌≤◌, Bool, true, List, [], ◌∷◌, ◌++◌, drop, length, length-append, Option, Result, refl, sym, ◌∙◌, ap, arith}
+use Rattle.std.proofs.Common.{◌≡◌, ℕ, ◌+◌, ◌≤◌, true, List, [], ◌∷◌, ◌++◌, drop, length, length-append, refl, ◌∙◌, ap, arith}
 use Rattle.od_pattern.specs.declared.path.Path.{Path}
 use Rattle.od_pattern.specs.declared.path.Path.TheVariants as path
 use Rattle.od_language.specs.declared.lexeme.Lexeme.{Lexeme}
@@ -8,7 +8,7 @@ use Rattle.od_language.specs.declared.lexeme.LexKind.TheVariants.{Or, SquareOpen
 use Rattle.od_language.specs.declared.pattern_fault.PatternKind.{PatternKind}
 use Rattle.od_language.specs.Machine.{Outcome, stopped, checked, either_way}
 use Rattle.od_language.specs.Depth.{depth_behind, broken_rule}
-use Rattle.od_syntax.specs.PathMachine.{Around, State, atom, turned, listed, whole, in_order, any_of, step, step_atom, step_turned, step_listed, ended, begins_atom, IsAtomAt, NoAtomAt, NoChoiceAt}
+use Rattle.od_syntax.specs.PathMachine.{Around, State, atom, turned, listed, whole, in_order, any_of, step_atom, step_turned, step_listed, ended, begins_atom, IsAtomAt, NoAtomAt, NoChoiceAt}
 use Rattle.od_lex.specs.Machine.{IsAhead}
 use Rattle.od_path.specs.Machine.{run, Comes, Next}
 

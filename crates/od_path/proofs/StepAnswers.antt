@@ -1,5 +1,5 @@
 -- What the parser of steps answers is the steps that stand there, or the first fault.
-use Rattle.std.proofs.Common.{◌≡◌, ℕ, ◌+◌, ◌-◌, ◌<◌, ◌≤◌, Bool, true, false, List, [], ◌∷◌, ◌++◌, length, drop, length-drop, Option, Result, Ok, Err, refl, sym, ◌∙◌, ap, arith, IfOk}
+use Rattle.std.proofs.Common.{◌≡◌, ℕ, ◌+◌, ◌-◌, ◌<◌, ◌≤◌, Bool, true, false, List, [], ◌∷◌, ◌++◌, length, drop, length-drop, Result, Ok, Err, refl, sym, ◌∙◌, ap, arith, IfOk}
 use Rattle.od_pattern.specs.declared.path.Path.{Path}
 use Rattle.od_language.specs.declared.pattern_fault.PatternKind.{PatternKind}
 use Rattle.od_language.specs.declared.pattern_fault.PatternFault.{PatternFault}
@@ -7,7 +7,7 @@ use Rattle.od_language.specs.declared.pattern_fault.PatternFault.TheVariants as 
 use Rattle.od_language.specs.declared.lexeme.Lexeme.{Lexeme}
 use Rattle.od_language.specs.declared.lexeme.LexKind.{LexKind}
 use Rattle.od_language.specs.declared.lexeme.LexKind.TheVariants.{End}
-use Rattle.od_language.specs.Alphabet.{plain, kinds, IsEnded}
+use Rattle.od_language.specs.Alphabet.{plain, IsEnded}
 use Rattle.od_language.specs.Answers.{IfBad, Gives, Refuses}
 use Rattle.od_language.specs.Depth.{depth_behind, depth_after, broken_rule}
 use Rattle.od_language.specs.FirstFault.{OneAnswer}

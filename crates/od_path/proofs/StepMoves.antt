@@ -1,5 +1,5 @@
 -- Steps that the parser of steps takes.
-use Rattle.std.proofs.Common.{◌≡◌, ℕ, suc, ◌+◌, ◌-◌, ◌<◌, ◌≤◌, Bool, true, false, if◌then◌else◌, List, [], ◌∷◌, ◌++◌, length, Option, Some, None, Result, Ok, Err, refl, sym, ◌∙◌, ap, arith}
+use Rattle.std.proofs.Common.{◌≡◌, ℕ, suc, ◌+◌, ◌-◌, ◌<◌, ◌≤◌, Bool, true, false, if◌then◌else◌, List, [], ◌∷◌, ◌++◌, length, Some, None, Ok, Err, refl, sym, ◌∙◌, ap, arith}
 use Rattle.std.proofs.lemmas.Bool.{lt-ltb, le-ltb}
 use Rattle.od_pattern.specs.declared.path.Path.{Path}
 use Rattle.od_pattern.specs.declared.path.Path.TheVariants as path
@@ -8,7 +8,7 @@ use Rattle.od_language.specs.declared.pattern_fault.PatternKind.{PatternKind}
 use Rattle.od_language.specs.declared.pattern_fault.PatternKind.TheVariants as kind
 use Rattle.od_language.specs.declared.lexeme.Lexeme.{Lexeme}
 use Rattle.od_language.specs.declared.lexeme.LexKind.{LexKind}
-use Rattle.od_language.specs.declared.lexeme.LexKind.TheVariants.{Range, RoundOpen, Along, Against, AnyAlong, AnyAgainst, Question, Star, Plus}
+use Rattle.od_language.specs.declared.lexeme.LexKind.TheVariants.{RoundOpen, Along, Against, AnyAlong, AnyAgainst}
 use Rattle.od_language.specs.Alphabet.{plain, kinds}
 use Rattle.od_language.specs.Depth.{broken_rule, too_deep}
 use Rattle.od_language.specs.Machine.{Outcome, stopped, checked, either_way}

@@ -1,5 +1,5 @@
 -- Paths as whole texts.
-use Rattle.std.proofs.Common.{◌≡◌, ℕ, suc, ◌+◌, ◌<◌, Bool, true, false, nat_lt, if◌then◌else◌, List, [], ◌∷◌, drop, Option, Some, None, Result, Ok, Err, refl, sym, ◌∙◌, ap, subst, arith, IfOk}
+use Rattle.std.proofs.Common.{◌≡◌, ℕ, ◌+◌, Bool, true, false, nat_lt, if◌then◌else◌, List, [], ◌∷◌, drop, Option, Some, None, Result, Ok, Err, refl, sym, ◌∙◌, ap, subst, arith, IfOk}
 use Rattle.std.proofs.lemmas.List.{drop-drop}
 use Rattle.od_pattern.specs.declared.path.Path.{Path}
 use Rattle.od_language.specs.declared.pattern_fault.PatternKind.{PatternKind}

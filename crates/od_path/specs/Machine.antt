@@ -1,5 +1,5 @@
 -- Paths read one lexeme at a time, with the rules: what the contracts of the parser's parts speak of.
-use Rattle.std.specs.Prelude.{◌≡◌, ℕ, ◌+◌, ◌-◌, ◌<◌, ◌≤◌, List, [], ◌∷◌, drop, length}
+use Rattle.std.specs.Prelude.{ℕ, ◌-◌, ◌≤◌, List, [], ◌∷◌, drop}
 use Rattle.od_pattern.specs.declared.path.Path.{Path}
 use Rattle.od_pattern.specs.declared.path.Path.TheVariants as path
 use Rattle.od_language.specs.declared.pattern_fault.PatternKind.{PatternKind}

@@ -1,5 +1,5 @@
 -- Steps read one lexeme at a time, with the rules: what the contracts of their parser's parts speak of.
-use Rattle.std.specs.Prelude.{◌≡◌, ℕ, ◌-◌, ◌≤◌, Bool, true, false, List, [], ◌∷◌, drop, Option, None, Result, Err, Ok}
+use Rattle.std.specs.Prelude.{ℕ, ◌-◌, ◌≤◌, Bool, true, false, List, [], ◌∷◌, drop, Err}
 use Rattle.od_pattern.specs.declared.path.Path.{Path}
 use Rattle.od_language.specs.declared.pattern_fault.PatternKind.TheVariants as kind
 use Rattle.od_language.specs.declared.lexeme.Lexeme.{Lexeme}
@@ -7,7 +7,7 @@ use Rattle.od_language.specs.declared.lexeme.LexKind.{LexKind}
 use Rattle.od_language.specs.declared.lexeme.LexKind.TheVariants.{RoundClose, Along, Against, AnyAlong, AnyAgainst}
 use Rattle.od_language.specs.Alphabet.{plain, kinds}
 use Rattle.od_language.specs.Depth.{depth_behind, broken_rule}
-use Rattle.od_language.specs.Machine.{Outcome, walk, stopped, checked, either_way}
+use Rattle.od_language.specs.Machine.{Outcome, walk, checked, either_way}
 use Rattle.od_syntax.specs.StepsAnswer.{AreSteps}
 use Rattle.od_syntax.specs.StepsMachine.{State, part, opened, step, ended}
 use Rattle.od_syntax.specs.Told.{Told, lexeme, steps_open, ToldLexeme, told_apart, untold, told_of, told}

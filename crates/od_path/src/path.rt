@@ -2,17 +2,20 @@
 ghost use Rattle.std.specs.Prelude.{◌≡◌, ℕ, ◌+◌, ◌-◌, ◌^◌, ◌<◌, ◌≤◌, Bool, true, false, List, [], ◌∷◌, ◌++◌, drop, length, Option, Some, None, Ok, MatchOption, MatchResult, MatchBool, IfOk, OnOk};
 ghost use Rattle.od_language.specs.declared.pattern_fault.PatternKind.{PatternKind};
 ghost use Rattle.od_language.specs.declared.pattern_fault.PatternKind.TheVariants as kind;
+ghost use Rattle.od_language.specs.declared.lexeme.LexKind.{LexKind};
 ghost use Rattle.od_language.specs.declared.lexeme.LexKind.TheVariants as lexeme;
 ghost use Rattle.od_language.specs.declared.lexeme.Lexeme.{Lexeme};
-ghost use Rattle.od_language.specs.Alphabet.{plain, IsEnded};
+ghost use Rattle.od_language.specs.Alphabet.{plain, kinds, IsEnded};
 ghost use Rattle.od_language.specs.Answers.{IfBad, Gives, Refuses};
-ghost use Rattle.od_language.specs.Depth.{depth_before, is_bad_range};
+ghost use Rattle.od_language.specs.Depth.{depth_before, is_bad_range, BreaksRule};
+ghost use Rattle.od_language.specs.FirstFault.{Keeps};
 ghost use Rattle.od_language.specs.Machine.{GoesOn};
 ghost use Rattle.od_pattern.specs.declared.path.Path.{Path};
 ghost use Rattle.od_pattern.specs.declared.path.Path.TheVariants as path_value;
 ghost use Rattle.od_pattern.specs.declared.pattern.Value.TheVariants as asked;
 ghost use Rattle.od_syntax.specs.PathMachine.{Around, top, round, State, atom, label, inside, part, turned, listed, whole, in_order, any_of, edge, NoAtomAt, NoChoiceAt, IsAtomAt};
 ghost use Rattle.od_syntax.specs.Sizes.{counted as counted_size, path_size, repeat_size};
+ghost use Rattle.od_written.specs.Paths.{path_written, IsWritablePath, goes_on_path};
 ghost use Rattle.od_lex.specs.Machine.{IsAhead};
 ghost use Rattle.od_path.specs.Machine.{run, Next, Comes, IsPathRead, IsPathFault, OnePath, IsPathFrom};
 
@@ -357,6 +360,13 @@ pub fn parse_path(
     ensures only_fault { (at : ℕ) (k : PatternKind) →
         IsPathFault (depth_before lexemes.now from) (drop from lexemes.now) at k →
         Refuses result at k }
+    // A path that is written out reads back as itself, where it keeps the limits and no path goes
+    // on with the lexeme behind it.
+    ensures reads_back { (p : Path) (x : LexKind) (behind : List LexKind) → IsWritablePath p →
+        kinds plain (drop from lexemes.now) ≡ path_written p ++ x ∷ behind →
+        goes_on_path x ≡ false →
+        Keeps (BreaksRule (depth_before lexemes.now from)) (path_written p) →
+        Gives result p (from + length (path_written p)) }
     // One of the two always stands, and never both.
     ensures one_answer { OnePath (depth_before lexemes.now from) (drop from lexemes.now) }
 {

@@ -2,12 +2,13 @@
 ghost use Rattle.std.specs.Prelude.{◌≡◌, ℕ, ◌+◌, ◌-◌, ◌^◌, ◌<◌, ◌≤◌, Bool, true, false, List, [], ◌∷◌, ◌++◌, drop, length, Ok, MatchOption, MatchResult, MatchBool, IfOk};
 ghost use Rattle.od_language.specs.declared.pattern_fault.PatternKind.{PatternKind};
 ghost use Rattle.od_language.specs.declared.pattern_fault.PatternKind.TheVariants as kind;
+ghost use Rattle.od_language.specs.declared.lexeme.LexKind.{LexKind};
 ghost use Rattle.od_language.specs.declared.lexeme.LexKind.TheVariants as lexeme;
 ghost use Rattle.od_language.specs.declared.lexeme.Lexeme.{Lexeme};
 ghost use Rattle.od_language.specs.Alphabet.{plain, kinds, IsEnded};
 ghost use Rattle.od_language.specs.Answers.{IfBad, Gives, Refuses};
-ghost use Rattle.od_language.specs.Depth.{depth_before};
-ghost use Rattle.od_language.specs.FirstFault.{OneAnswer};
+ghost use Rattle.od_language.specs.Depth.{depth_before, BreaksRule};
+ghost use Rattle.od_language.specs.FirstFault.{OneAnswer, Keeps};
 ghost use Rattle.od_language.specs.Machine.{GoesOn};
 ghost use Rattle.od_pattern.specs.declared.path.Path.{Path};
 ghost use Rattle.od_pattern.specs.declared.path.Path.TheVariants as path_value;
@@ -15,7 +16,8 @@ ghost use Rattle.od_syntax.specs.Hops.{Steps, BreaksSteps};
 ghost use Rattle.od_syntax.specs.Sizes.{counted as counted_size, path_size};
 ghost use Rattle.od_syntax.specs.StepsAnswer.{AreSteps, IsStepsFault};
 ghost use Rattle.od_syntax.specs.StepsMachine.{State, begun, group, part, turned, group_start};
-ghost use Rattle.od_syntax.specs.Told.{told_apart, told, leads_to_steps};
+ghost use Rattle.od_syntax.specs.Told.{told_apart, told, told_of, leads_to_steps};
+ghost use Rattle.od_written.specs.Hops.{steps_written, AreWritableSteps, goes_on_steps};
 ghost use Rattle.od_path.specs.Steps.{steps_run, atom_run, closed, steps_come, AreStepsFrom};
 
 use crate::ahead::{bad, next, unexpected};
@@ -312,6 +314,13 @@ pub fn parse_steps(
     ensures only_fault { (at : ℕ) (k : PatternKind) →
         IsStepsFault (depth_before lexemes.now from) (drop from lexemes.now) at k →
         Refuses result at k }
+    // Steps that are written out read back as themselves, where they keep the limits and no steps
+    // go on with the lexeme behind them.
+    ensures reads_back { (p : Path) (x : LexKind) (behind : List LexKind) → AreWritableSteps p →
+        kinds plain (drop from lexemes.now) ≡ steps_written p ++ x ∷ behind →
+        goes_on_steps (told_of false x behind) ≡ false →
+        Keeps (BreaksRule (depth_before lexemes.now from)) (steps_written p) →
+        Gives result p (from + length (steps_written p)) }
     // One of the two always stands, and never both.
     ensures one_answer { OneAnswer told_apart Steps (BreaksSteps (depth_before lexemes.now from)) (told (drop from lexemes.now)) }
 {

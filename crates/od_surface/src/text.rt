@@ -5,12 +5,17 @@ ghost use Rattle.od_pattern.specs.declared.pattern.Surface.{Surface};
 ghost use Rattle.od_language.specs.declared.pattern_fault.PatternKind.{PatternKind};
 ghost use Rattle.od_language.specs.Alphabet.{plain};
 ghost use Rattle.od_language.specs.Answers.{IfBad, Refuses};
+ghost use Rattle.od_language.specs.declared.limits.TheConstants.{PATTERN_SIZE};
+ghost use Rattle.od_language.specs.FirstFault.{Keeps};
 ghost use Rattle.od_language.specs.Machine.{GoesOn};
 ghost use Rattle.od_language.specs.Whole.{OneOf};
 ghost use Rattle.od_language.specs.WholeRuns.{Verdict, to_the_end, sized as if_sized};
+ghost use Rattle.od_syntax.specs.Rules.{BreaksSurface};
 ghost use Rattle.od_syntax.specs.Sizes.{surface_size, counted};
 ghost use Rattle.od_syntax.specs.Texts.{IsSurfaceText, IsSurfaceTextFault, stuck_at};
 ghost use Rattle.od_syntax.specs.Verdicts.{surface_at as verdict_at, surface_of as verdict_of, surface_start};
+ghost use Rattle.od_written.specs.Surfaces.{surface_written, IsWritableSurface};
+ghost use Rattle.od_written.specs.Texts.{HasLexemes};
 ghost use Rattle.od_surface.specs.Answers.{Tells, GivesValue, unless_stuck};
 ghost use Rattle.od_surface.specs.Reading.{of_text, run, whole_of};
 
@@ -152,6 +157,12 @@ pub fn parse_surface(alloc: Global, text: &str) -> Result<Surface, PatternFault>
     ensures only_value { (p : Surface) → IsSurfaceText (chars_in text.now) p → GivesValue result p }
     ensures only_fault { (at : ℕ) (k : PatternKind) → IsSurfaceTextFault (chars_in text.now) at k →
         Refuses result at k }
+    // A pattern that is written out reads back as itself, where it keeps the rules and is not too
+    // big.
+    ensures reads_back { (p : Surface) → IsWritableSurface p →
+        HasLexemes 0 (chars_in text.now) (surface_written p) →
+        Keeps BreaksSurface (surface_written p) → surface_size p ≤ PATTERN_SIZE →
+        GivesValue result p }
     // One of the two always is, and never both.
     ensures one_answer { OneOf (IsSurfaceText (chars_in text.now)) (IsSurfaceTextFault (chars_in text.now)) }
 {

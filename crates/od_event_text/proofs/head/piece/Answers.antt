@@ -1,4 +1,4 @@
-use Rattle.std.proofs.Common.{◌+◌, ◌∙◌, sym, drop}
+use Rattle.std.proofs.Common.{◌∙◌, sym, drop}
 use Rattle.od_event_text.proofs.Heads.{run_is, one_is}
 use Rattle.od_event_text.proofs.head.piece.Goals as goal
 

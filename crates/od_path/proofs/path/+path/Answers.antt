@@ -1,4 +1,4 @@
-use Rattle.std.proofs.Common.{◌≤◌, ◌+◌, suc, List, [], ◌∷◌, length, drop, sym, ◌∙◌, ap, subst, arith}
+use Rattle.std.proofs.Common.{◌+◌, suc, List, [], ◌∷◌, drop, sym, ◌∙◌, ap, arith}
 use Rattle.od_pattern.specs.declared.path.Path.{Path}
 use Rattle.od_syntax.specs.PathMachine.{turned, listed}
 use Rattle.od_syntax.specs.Sizes.{counted}

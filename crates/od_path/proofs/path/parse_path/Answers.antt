@@ -1,5 +1,7 @@
-use Rattle.std.proofs.Common.{[]}
+use Rattle.std.proofs.Common.{length}
 use Rattle.od_syntax.specs.PathMachine.{top}
+use Rattle.od_written.specs.Paths.{path_written}
+use Rattle.od_written.proofs.PathEnds.{path_read}
 use Rattle.od_path.proofs.Answers.{parsed_value, parsed_fault, only_value, only_fault, one_answer}
 use Rattle.od_path.proofs.path.parse_path.Goals as goal
 
@@ -17,3 +19,6 @@ returns-clause-only_fault c = only_fault c.path_and_place.result _ c.args.from _
 
 pub returns-clause-one_answer : goal.returns-clause-one_answer
 returns-clause-one_answer c = one_answer _ _ c.requires
+
+pub returns-clause-reads_back : goal.returns-clause-reads_back
+returns-clause-reads_back c = λ p x behind w e h keeps. returns-clause-only_value c p (length (path_written p)) (path_read _ p _ x behind w e h keeps)

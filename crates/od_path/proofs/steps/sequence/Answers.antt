@@ -1,4 +1,4 @@
-use Rattle.std.proofs.Common.{◌+◌, List, [], ◌∷◌, drop, sym, ◌∙◌, ap, arith}
+use Rattle.std.proofs.Common.{List, [], ◌∷◌, drop, sym, ◌∙◌, ap, arith}
 use Rattle.od_pattern.specs.declared.path.Path.{Path}
 use Rattle.od_syntax.specs.Sizes.{counted}
 use Rattle.od_syntax.specs.StepsMachine.{turned}
