@@ -1,16 +1,14 @@
 -- Lemmas on marks as bits of words.
-use Rattle.std.proofs.Common.{◌≡◌, ℕ, zero, suc, ◌+◌, ◌-◌, ◌*◌, ◌/◌, ◌%◌, ◌^◌, ◌<◌, ◌≤◌, ◌⊎◌, ◌≢◌, Bool, true, false, not, List, [], ◌∷◌, length, map, refl, sym, ◌∙◌, ap, subst, inl, inr, arith, get_or, set, eqb, cond, max, min, w64}
+use Rattle.std.proofs.Common.{◌≡◌, ℕ, zero, suc, ◌+◌, ◌-◌, ◌*◌, ◌/◌, ◌%◌, ◌^◌, ◌<◌, ◌≤◌, ◌⊎◌, ◌≢◌, Bool, true, false, List, [], ◌∷◌, length, refl, sym, ◌∙◌, ap, subst, inl, inr, arith, get_or, set, eqb, max, min, w64}
 use Rattle.std.proofs.lemmas.Bool.{cases_eq, cases_lt, lt-ltb, le-ltb}
 use Rattle.std.proofs.lemmas.List.{get_or-set_same, get_or-set_other, get_or_past, same_lists}
 use Rattle.std.proofs.lemmas.List.FromFn.{get_or-map-range_with_len, length-map-range_with_len}
-use Rattle.std.proofs.lemmas.List.Sums.{sum_by-cons}
-use Rattle.std.proofs.lemmas.List.Elements.{Contains-push}
 use Rattle.std.proofs.lemmas.Grind.{one_shifted}
 use Rattle.std.proofs.lemmas.Nat.{and_le_l}
 use Rattle.std.proofs.lemmas.Nat.Bits.{bit_at-zero, bit_at-lt, bit_at_and, bit_at_or, bit_at_not, bit_at_ones, bit_at_ones_above, shr_and_one, bit_at_set_same, bit_at_set_other}
-use Rattle.std.specs.Prelude.{bit_and, bit_or, slice_index_or, count_by, nat_le, nat_lt, ◌&&◌, if◌then◌else◌}
+use Rattle.std.specs.Prelude.{bit_and, bit_or, nat_le, nat_lt, ◌&&◌, if◌then◌else◌}
 use Rattle.std.specs.Int.{bit_at, bit_not}
-use Rattle.std.specs.List.{range_with_len, Contains}
+use Rattle.std.specs.List.{Contains}
 use Rattle.od_machine.specs.Found.{ClearsPlace}
 use Rattle.od_machine.specs.Marks.{mark_in, marks_in, AreNamed, AreOff}
 
@@ -162,39 +160,6 @@ module _ (old new : List ℕ) (count from to : ℕ) (order : from ≤ to)
           ];
     }
 
--- each mark taken off leaves at most one more unset
-pub unset-off : (old new : List Bool) (from to : ℕ) → from ≤ to → length new ≡ length old
-    → ((n : ℕ) → (n < from) ⊎ (to ≤ n) → get_or new n false ≡ get_or old n false)
-    → count_by not new ≤ count_by not old + (to - from)
-unset-off [] [] from to order len others = omega arith
-unset-off (x ∷ xs) [] from to order len others = absurd (omega arith)
-unset-off [] (y ∷ ys) from to order len others = absurd (omega arith)
-unset-off (x ∷ xs) (y ∷ ys) from to order len others =
-    let rest : count_by not ys ≤ count_by not xs + ((to - 1) - (from - 1)) =
-    unset-off xs ys (from - 1) (to - 1) (omega arith) (omega arith) (λ n out. others (suc n) (elim out [ inl lt ↦ inl (omega arith) | inr ge ↦ inr (omega arith) ])) in
-    let new : count_by not (y ∷ ys) ≡ one y + count_by not ys = sum_by-cons one y ys in
-    let old : count_by not (x ∷ xs) ≡ one x + count_by not xs = sum_by-cons one x xs in
-    let few : one y ≤ 1 = one-le y in
-    elim (cases_lt 0 from) [
-      | inl lt ↦
-          let same : one y ≡ one x = ap one (others 0 (inl lt)) in
-          omega (arith, rest, new, old, same)
-      | inr le ↦
-          elim (cases_lt 0 to) [
-            | inl lt ↦ omega (arith, rest, new, old, few)
-            | inr none ↦
-                let same : one y ≡ one x = ap one (others 0 (inr none)) in
-                omega (arith, rest, new, old, same)
-          ]
-    ]
-  where
-    one : Bool → ℕ
-    one x = cond (not x) 1 0
-
-    one-le : (b : Bool) → one b ≤ 1
-    one-le true = omega arith
-    one-le false = omega arith
-
 -- the lowest bits, so many
 pub some_ones : (n i : ℕ) → n < 64 → i < 64 → bit_at (1 * 2 ^ n % 2 ^ 64 - 1) i ≡ (if nat_lt i n then 1 else 0)
 some_ones n i h g =
@@ -270,14 +235,14 @@ module _ (from to k word mask : ℕ) (first now : List ℕ) (low : from / 64 ≤
         ]
 
 -- the marks of a place are off
-pub clears_place : (size at to : ℕ) (old new : List Bool) → to ≡ (at + 1) * size * 2 → AreOff (to - size * 2) to old new → ClearsPlace size at old new
-clears_place size at to old new e off n set =
-    let split : (at + 1) * size ≡ at * size + size = omega arith in
-    elim (cases_lt n (to - size * 2)) [
-      | inl lt ↦ (sym (off.others n (inl lt)) ∙ set, inl (omega (arith, split)))
+pub clears_place : (width at to : ℕ) (old new : List Bool) → to ≡ at * width + width → AreOff (at * width) to old new → ClearsPlace width at old new
+clears_place width at to old new e off n set =
+    let next : (at + 1) * width ≡ at * width + width = omega arith in
+    elim (cases_lt n (at * width)) [
+      | inl lt ↦ (sym (off.others n (inl lt)) ∙ set, inl lt)
       | inr low ↦
           elim (cases_lt n to) [
             | inl lt ↦ absurd (let p : false ≡ true = sym (off.off n low lt) ∙ set in cc)
-            | inr ge ↦ (sym (off.others n (inr ge)) ∙ set, inr (omega arith))
+            | inr ge ↦ (sym (off.others n (inr ge)) ∙ set, inr (omega (arith, next)))
           ]
     ]

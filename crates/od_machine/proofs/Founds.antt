@@ -24,7 +24,7 @@ use Rattle.od_pattern.specs.declared.pattern.Constraint.{Constraint}
 use Rattle.od_pattern.specs.declared.pattern.Surface.{Surface}
 use Rattle.od_document.specs.declared.sentence.Sentence.{Sentence}
 
-pub table_fits : (tokens size : ℕ) → tokens ≤ 2000 → size < 2 ^ 31 → (tokens + 1) * size ≤ 2001 * 2 ^ 31
+pub table_fits : (tokens size : ℕ) → tokens ≤ 2000 → size < 2 ^ 32 → (tokens + 1) * size ≤ 2001 * 2 ^ 32
 table_fits tokens size h g =
     let a : (tokens + 1) * size ≤ 2001 * size = mul-le-mul_right size (omega arith) in
     omega (arith, a)

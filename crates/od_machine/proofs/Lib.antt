@@ -3,9 +3,11 @@ pub mod Does
 pub mod Bits
 pub mod Compiled
 pub mod Search
+pub mod Meetings
 pub mod Rows
 pub mod Sizes
 pub mod Names
 pub mod Visiting
 pub mod Founds
+pub mod Dues
 pub mod Entries

@@ -1,14 +1,17 @@
 -- Each step of the search keeps what the threads have to say.
-use Rattle.std.proofs.Common.{◌≡◌, ℕ, zero, suc, ◌+◌, ◌-◌, ◌*◌, ◌<◌, ◌≤◌, ◌⊎◌, ◌≢◌, Bool, true, false, List, [], ◌∷◌, ◌++◌, length, take, map, refl, sym, ◌∙◌, ap, subst, inl, inr, arith, set, length-append}
+use Rattle.std.proofs.Common.{◌≡◌, ℕ, zero, suc, ◌+◌, ◌-◌, ◌*◌, ◌<◌, ◌≤◌, ◌⊎◌, ◌≢◌, Bool, true, false, List, [], ◌∷◌, ◌++◌, length, take, map, refl, sym, ◌∙◌, ap, subst, inl, inr, arith, length-append}
 use Rattle.std.proofs.lemmas.Option.{slice_get_within}
 use Rattle.std.proofs.lemmas.List.{take-append-le, length-take-le, get_or-set_other}
 use Rattle.std.proofs.Math.Nat.{mul-le-mul_right}
-use Rattle.std.proofs.lemmas.Bool.{cases_lt, ltb-true}
-use Rattle.std.specs.Prelude.{Option, Some, None, option_map, slice_get, slice_index_or, if◌then◌else◌, ◌==◌}
+use Rattle.std.proofs.lemmas.Bool.{cases_eq, cases_lt, ltb-true}
+use Rattle.std.specs.Prelude.{Option, Some, None, IfSome, option_map, slice_get, slice_index_or, if◌then◌else◌, ◌==◌}
 use Rattle.std.specs.Option.{option_or}
 use Rattle.od_matching.specs.Matching.First.{Ending, accept, opened, open_capture}
 use Rattle.od_machine.specs.Machine.{Input, fits_row, peeks, State, state, in_turn, targets, follow, first_success, made, weight, measure, run}
-use Rattle.od_machine.specs.Search.{state_of, thread, name_in, act, replay, events_of, index, Fits, Inside, pending, Succeeds, Below, Marked, FailFrom, Searching}
+use Rattle.od_machine.specs.Search.{state_of, thread, name_in, act, replay, events_of, index, TakesMark, Fits, Inside, pending, Succeeds, Below, Marked, FailFrom, Searching}
+use Rattle.od_machine.specs.Points.{runs}
+use Rattle.od_machine.specs.declared.points.Points.{Points}
+use Rattle.od_machine.proofs.Meetings.{numbered_at, run_at, same_slot}
 use Rattle.od_machine.proofs.Runs.{farther, left_of, Lower, follow_lower, run_visit}
 use Rattle.od_machine.specs.declared.instruction.Instruction.{Instruction}
 use Rattle.od_machine.specs.declared.instruction.Instruction.TheVariants.{Take, Jump, Peek, AtFirst, AtLast, Split, Skip, Turn, Turned, Again, Open, Close, Fail, Match}
@@ -89,33 +92,64 @@ module _ (code : List Instruction) where
   made_events (Again l n) pc at o e ne = refl
   made_events Fail pc at o e ne = refl
 
--- states have different numbers
+-- places have different marks
 apart : (n a b p q : ℕ) → p < n → q < n → a * n + p ≡ b * n + q → a < b → ⊥
 apart n a b p q hp hq e lt =
     let h : suc a * n ≤ b * n = mul-le-mul_right n lt in
     omega (arith, h)
 
-weights : (x y : Bool) (m k : ℕ) → m * 2 + weight x 1 ≡ k * 2 + weight y 1 → (x ≡ y) × (m ≡ k)
-weights true true m k e = (refl, omega arith)
-weights false false m k e = (refl, omega arith)
-weights true false m k e = absurd (omega arith)
-weights false true m k e = absurd (omega arith)
+-- a place's marks: those with no token taken before the others
+sides : (x y : Bool) (count m k : ℕ) → m < count → k < count → weight x count + m ≡ weight y count + k → (x ≡ y) × (m ≡ k)
+sides true true count m k h g e = (refl, omega arith)
+sides false false count m k h g e = (refl, omega arith)
+sides true false count m k h g e = absurd (omega arith)
+sides false true count m k h g e = absurd (omega arith)
 
-same_place : (n : ℕ) (s t : State) → s.pc < n → t.pc < n → index n s ≡ index n t → s ≡ t
-same_place n s t hs ht e =
-    let h = weights s.taken t.taken (s.at * n + s.pc) (t.at * n + t.pc) e in
-    let q : s.at * n + s.pc ≡ t.at * n + t.pc = h.1 in
+-- a mark's number lies among those of its place
+pub side-lt : (x : Bool) (count m : ℕ) → m < count → weight x count + m < 2 * count
+side-lt true count m h = omega arith
+side-lt false count m h = omega arith
+
+same_mark : (count m k : ℕ) (s t : State) → m < count → k < count → index count m s ≡ index count k t → (s.at ≡ t.at) × (s.taken ≡ t.taken) × (m ≡ k)
+same_mark count m k s t hm hk e =
+    let ls : weight s.taken count + m < 2 * count = side-lt s.taken count m hm in
+    let lt : weight t.taken count + k < 2 * count = side-lt t.taken count k hk in
+    let there : s.at ≡ t.at =
     elim (cases_lt s.at t.at) [
-      | inl lt ↦ absurd (apart n s.at t.at s.pc t.pc hs ht q lt)
+      | inl before ↦ absurd (apart (2 * count) s.at t.at (weight s.taken count + m) (weight t.taken count + k) ls lt e before)
       | inr le ↦
           elim (cases_lt t.at s.at) [
-            | inl lt ↦ absurd (apart n t.at s.at t.pc s.pc ht hs (sym q) lt)
-            | inr ge ↦
-                let a : s.at ≡ t.at = omega arith in
-                let p : s.pc ≡ t.pc = let r : s.at * n ≡ t.at * n = ap (λ z. z * n) a in omega arith in
-                ap (λ z. state z s.taken s.at) p ∙ ap (λ z. state t.pc z s.at) h.0 ∙ ap (λ z. state t.pc t.taken z) a
+            | inl after ↦ absurd (apart (2 * count) t.at s.at (weight t.taken count + k) (weight s.taken count + m) lt ls (sym e) after)
+            | inr ge ↦ let q : s.at ≡ t.at = omega arith in q
           ]
-    ]
+    ] in
+    let row : s.at * (2 * count) ≡ t.at * (2 * count) = ap (λ (z : ℕ). z * (2 * count)) there in
+    let r = sides s.taken t.taken count m k hm hk (let q : weight s.taken count + m ≡ weight t.taken count + k = omega (arith, e, row) in q) in
+    (there, r.0, r.1)
+
+-- the meeting point with a number, which is below their count
+pub slot-lt : (points : Points) (pc slot : ℕ) → slice_get points.slots pc ≡ Some (Some slot) → slot < points.count
+slot-lt points pc slot e =
+    let r = run_at 0 points.slots pc slot (numbered_at points.slots points.numbered) e in
+    let h : slot < 0 + length (runs points.slots) = r.1 in
+    omega (arith, points.counted)
+
+pub slot-few : (points : Points) (pc : ℕ) (slot : Option ℕ) → slice_get points.slots pc ≡ Some slot → IfSome slot (λ n. n < points.count)
+slot-few points pc None e = tt
+slot-few points pc (Some slot) e = slot-lt points pc slot e
+
+-- a state that is not taken up leaves the marks as they are
+pub same_marks : (count : ℕ) (slot : Option ℕ) (s : State) (old new : List Bool) → TakesMark count slot s false old new → new ≡ old
+same_marks count None s old new h = h.1
+same_marks count (Some slot) s old new h = h.1
+
+-- states where ways can meet have different marks
+same_state : (points : Points) (m k : ℕ) (s t : State) → slice_get points.slots s.pc ≡ Some (Some m) → slice_get points.slots t.pc ≡ Some (Some k) → index points.count m s ≡ index points.count k t → s ≡ t
+same_state points m k s t es et e =
+    let r = same_mark points.count m k s t (slot-lt points s.pc m es) (slot-lt points t.pc k et) e in
+    let there : slice_get points.slots t.pc ≡ Some (Some m) = et ∙ ap (λ (z : ℕ). Some (Some z)) (sym r.2) in
+    let p : s.pc ≡ t.pc = same_slot 0 points.slots s.pc t.pc m (numbered_at points.slots points.numbered) es there in
+    ap (λ z. state z s.taken s.at) p ∙ ap (λ z. state t.pc z s.at) r.1 ∙ ap (λ z. state t.pc t.taken z) r.0
 
 module _ (w : Input) (code : List Instruction) where
   -- the trail may grow past what the threads share
@@ -219,9 +253,19 @@ module _ (w : Input) (code : List Instruction) where
   Inside-push a n [] ts h g = g
   Inside-push a n (s ∷ list) ts h g = (h.0, h.1, Inside-push a n list ts h.2 g)
 
+  -- a state at a later place has the lower measure
+  later : (s t : State) → t.at < s.at → s.at ≤ w.length → measure w code s < measure w code t
+  unfolding measure
+  later s t lt le = farther w.length t.at s.at (length code) _ _ lt le (small s.taken s.pc)
+    where
+      small : (b : Bool) (pc : ℕ) → weight b (length code + 1) + (length code - pc) ≤ length code + 1 + length code
+      small true pc = omega arith
+      small false pc = omega arith
+
+module _ (w : Input) (code : List Instruction) (points : Points) where
   -- the first thread fails
-  pub drop_dead : (a : ℕ) (goal : Option Ending) (seen : List Bool) (trail : List Event) (t : Thread) (ts : List Thread) → Searching w code a goal seen trail (t ∷ ts)
-      → run w code (state_of t) ≡ None → Searching w code a goal seen (take t.events trail) ts
+  pub drop_dead : (a : ℕ) (goal : Option Ending) (seen : List Bool) (trail : List Event) (t : Thread) (ts : List Thread) → Searching w code points a goal seen trail (t ∷ ts)
+      → run w code (state_of t) ≡ None → Searching w code points a goal seen (take t.events trail) ts
   unfolding pending
   drop_dead a goal seen trail t ts d e =
       let tr : List Event = take t.events trail in
@@ -236,21 +280,29 @@ module _ (w : Input) (code : List Instruction) where
       }
 
   -- the first thread's state was marked before
-  pub drop_seen : (a : ℕ) (goal : Option Ending) (seen : List Bool) (trail : List Event) (t : Thread) (ts : List Thread) → Searching w code a goal seen trail (t ∷ ts)
-      → Marked w code a seen (state_of t) → Searching w code a goal seen (take t.events trail) ts
+  pub drop_seen : (a : ℕ) (goal : Option Ending) (seen : List Bool) (trail : List Event) (t : Thread) (ts : List Thread) → Searching w code points a goal seen trail (t ∷ ts)
+      → Marked w code points a seen (state_of t) → Searching w code points a goal seen (take t.events trail) ts
   drop_seen a goal seen trail t ts d marked =
-      elim (some_or_none (state_of t)) [
+      elim (some_or_none w code (state_of t)) [
         | inl g ↦ let b = d.covers (state_of t) marked g in let lt : measure w code (state_of t) < measure w code (state_of t) = b.0 in absurd (omega arith)
         | inr e ↦ drop_dead a goal seen trail t ts d e
       ]
 
-  -- the first thread gives way to what follows it
-  pub go_on : (a : ℕ) (goal : Option Ending) (seen : List Bool) (trail : List Event) (t : Thread) (ts : List Thread) (x : Instruction) → Searching w code a goal seen trail (t ∷ ts)
-      → slice_get code t.pc ≡ Some x → x ≢ Match
-      → Searching w code a goal (set seen (index (length code) (state_of t)) true) (take t.events trail ++ events_of x t.pc t.at)
+  -- so it was not taken up
+  pub drop_marked : (a : ℕ) (goal : Option Ending) (seen seen' : List Bool) (trail : List Event) (t : Thread) (ts : List Thread) (slot : Option ℕ) → Searching w code points a goal seen trail (t ∷ ts)
+      → slice_get points.slots t.pc ≡ Some slot → TakesMark points.count slot (state_of t) false seen seen' → Searching w code points a goal seen' (take t.events trail) ts
+  drop_marked a goal seen seen' trail t ts None d e h = absurd (let q : false ≡ true = h.0 in cc)
+  drop_marked a goal seen seen' trail t ts (Some slot) d e h =
+      subst (λ (z : List Bool). Searching w code points a goal z (take t.events trail) ts) (sym h.1)
+      (drop_seen a goal seen trail t ts d (record { slot = slot; meets = e; from = d.inside.0; within = d.inside.1; mark = h.0 }))
+
+  -- the first thread gives way to what follows it, and no other state is marked
+  go_past : (a : ℕ) (goal : Option Ending) (seen seen' : List Bool) (trail : List Event) (t : Thread) (ts : List Thread) (x : Instruction) → Searching w code points a goal seen trail (t ∷ ts)
+      → slice_get code t.pc ≡ Some x → x ≢ Match → ((s : State) → Marked w code points a seen' s → Marked w code points a seen s ⊎ (s ≡ state_of t))
+      → Searching w code points a goal seen' (take t.events trail ++ events_of x t.pc t.at)
       (map (thread (length (take t.events trail ++ events_of x t.pc t.at))) (follow w x t.pc t.taken t.at) ++ ts)
   unfolding pending
-  go_on a goal seen trail t ts x d e ne =
+  go_past a goal seen seen' trail t ts x d e ne kept =
       let tr : List Event = take t.events trail in
       let ext : List Event = events_of x t.pc t.at in
       let n : ℕ = length (tr ++ ext) in
@@ -265,41 +317,62 @@ module _ (w : Input) (code : List Instruction) where
       let runs : run w code s ≡ replay code ext fs = run_visit w code s (Some x) e ∙ made_events code x t.pc t.at fs e ne in
       let whole : replay code tr (run w code s) ≡ replay code (tr ++ ext) fs = ap (replay code tr) runs ∙ sym (replay-append code tr ext fs) in
       let here : (m : ℕ) → measure w code s ≤ m → Succeeds w code s → Below w code m (map (thread n) list ++ ts) = λ m up ok.
-      let f : (o' : Ending) × (fs ≡ Some o') = some_front ext fs ok.0 (sym runs ∙ ok.1) in
-      Below_front m n list ts f.0 (Lower-weaken (measure w code s) m list up lower) f.1 in
+      let f : (o' : Ending) × (fs ≡ Some o') = some_front w code ext fs ok.0 (sym runs ∙ ok.1) in
+      Below_front w code m n list ts f.0 (Lower-weaken w code (measure w code s) m list up lower) f.1 in
       let old : (m : ℕ) → Below w code m (t ∷ ts) → Below w code m (map (thread n) list ++ ts) = λ m b.
       let lt : measure w code s < m = b.0 in
       elim b.1 [
         | inl ok ↦ here m (omega arith) ok
-        | inr under ↦ Below_past m n list ts (Lower-weaken (measure w code s) m list (omega arith) lower) under
+        | inr under ↦ Below_past w code m n list ts (Lower-weaken w code (measure w code s) m list (omega arith) lower) under
       ] in
-      let kept : (s' : State) → s'.pc < length code → a ≤ s'.at → s'.at ≤ w.length → index (length code) s' ≢ index (length code) s
-      → slice_index_or (set seen (index (length code) s) true) (index (length code) s') false ≡ true → Succeeds w code s' → Below w code (measure w code s') (map (thread n) list ++ ts) = λ s' inside from within ne marked ok.
-      old (measure w code s') (d.covers s' (record { pc = inside; from = from; within = within; mark = sym (get_or-set_other seen (index (length code) s) (index (length code) s') true false ne) ∙ marked }) ok) in
       record {
         value =
-            pending_push (tr ++ ext) list ts
-            ∙ ap (option_or (replay code (tr ++ ext) fs)) (pending_longer tr ext ts fits_tr)
+            pending_push w code (tr ++ ext) list ts
+            ∙ ap (option_or (replay code (tr ++ ext) fs)) (pending_longer w code tr ext ts fits_tr)
             ∙ ap (λ z. option_or z (pending w code tr ts)) (sym whole)
             ∙ d.value;
         covers = λ s' marked ok.
-            elim (cases_lt (index (length code) s') (index (length code) s)) [
-              | inl lt ↦ kept s' marked.pc marked.from marked.within (λ q. absurd (omega arith)) marked.mark ok
-              | inr ge ↦
-                  elim (cases_lt (index (length code) s) (index (length code) s')) [
-                    | inl lt ↦ kept s' marked.pc marked.from marked.within (λ q. absurd (omega arith)) marked.mark ok
-                    | inr le' ↦
-                        let same : s' ≡ s = same_place (length code) s' s marked.pc in_code (omega arith) in
-                        here (measure w code s') (let q : measure w code s' ≡ measure w code s = ap (measure w code) same in omega arith)
-                        (subst (Succeeds w code) same ok)
-                  ]
+            elim (kept s' marked) [
+              | inl before ↦ old (measure w code s') (d.covers s' before ok)
+              | inr same ↦ here (measure w code s') (let q : measure w code s' ≡ measure w code s = ap (measure w code) same in omega arith) (subst (Succeeds w code) same ok)
             ];
-        fits = Fits-push n list ts (Fits-weaken (length tr) n ts (let q : n ≡ length tr + length ext = length-append tr ext in omega arith) fits_tr);
-        inside = Inside-push a n list ts (follow_inside x a t.pc t.at t.taken d.inside.0 d.inside.1) d.inside.2;
+        fits = Fits-push w code n list ts (Fits-weaken w code (length tr) n ts (let q : n ≡ length tr + length ext = length-append tr ext in omega arith) fits_tr);
+        inside = Inside-push w code a n list ts (follow_inside w code x a t.pc t.at t.taken d.inside.0 d.inside.1) d.inside.2;
       }
 
+  -- what is marked once the first thread is taken up
+  marked_kept : (a : ℕ) (seen seen' : List Bool) (s : State) (slot : Option ℕ) → slice_get points.slots s.pc ≡ Some slot → TakesMark points.count slot s true seen seen'
+      → (s' : State) → Marked w code points a seen' s' → Marked w code points a seen s' ⊎ (s' ≡ s)
+  marked_kept a seen seen' s None e h s' marked = inl (subst (λ (z : List Bool). Marked w code points a z s') h.1 marked)
+  marked_kept a seen seen' s (Some slot) e h s' marked =
+      let n : ℕ = index points.count slot s in
+      let n' : ℕ = index points.count marked.slot s' in
+      elim (cases_eq n' n) [
+        | inl same ↦ inr (same_state points marked.slot slot s' s marked.meets e same)
+        | inr other ↦ inl (record {
+          slot = marked.slot;
+          meets = marked.meets;
+          from = marked.from;
+          within = marked.within;
+          mark = sym (get_or-set_other seen n n' true false other) ∙ sym (ap (λ (z : List Bool). slice_index_or z n' false) h.1) ∙ marked.mark;
+        })
+      ]
+
+  -- the first thread gives way to what follows it
+  pub go_on : (a : ℕ) (goal : Option Ending) (seen seen' : List Bool) (trail trail' : List Event) (t : Thread) (ts ts' : List Thread) (x : Instruction) (slot : Option ℕ) (m : ℕ)
+      → Searching w code points a goal seen trail (t ∷ ts) → slice_get code t.pc ≡ Some x → x ≢ Match → slice_get points.slots t.pc ≡ Some slot → TakesMark points.count slot (state_of t) true seen seen'
+      → trail' ≡ take t.events trail ++ events_of x t.pc t.at → m ≡ length trail' → ts' ≡ map (thread m) (follow w x t.pc t.taken t.at) ++ ts
+      → Searching w code points a goal seen' trail' ts'
+  go_on a goal seen seen' trail trail' t ts ts' x slot m d e ne here h et em ets =
+      let list : List State = follow w x t.pc t.taken t.at in
+      let s = go_past a goal seen seen' trail t ts x d e ne (marked_kept a seen seen' (state_of t) slot here h) in
+      let whole : m ≡ length (take t.events trail ++ events_of x t.pc t.at) = em ∙ ap length et in
+      subst (λ (z : List Thread). Searching w code points a goal seen' trail' z) (sym ets)
+      (subst (λ (z : ℕ). Searching w code points a goal seen' trail' (map (thread z) list ++ ts)) (sym whole)
+      (subst (λ (z : List Event). Searching w code points a goal seen' z (map (thread (length (take t.events trail ++ events_of x t.pc t.at))) list ++ ts)) (sym et) s))
+
   -- the first thread is at the end
-  pub found : (a : ℕ) (goal : Option Ending) (seen : List Bool) (trail : List Event) (t : Thread) (ts : List Thread) → Searching w code a goal seen trail (t ∷ ts)
+  pub found : (a : ℕ) (goal : Option Ending) (seen : List Bool) (trail : List Event) (t : Thread) (ts : List Thread) → Searching w code points a goal seen trail (t ∷ ts)
       → slice_get code t.pc ≡ Some Match → goal ≡ replay code (take t.events trail) (accept t.at)
   unfolding pending
   found a goal seen trail t ts d e =
@@ -310,11 +383,11 @@ module _ (w : Input) (code : List Instruction) where
       sym d.value ∙ ap (λ z. option_or z (pending w code tr ts)) runs ∙ sym r.1
 
   -- no thread is left
-  pub exhausted : (a : ℕ) (goal : Option Ending) (seen : List Bool) (trail : List Event) → Searching w code a goal seen trail [] → goal ≡ None
+  pub exhausted : (a : ℕ) (goal : Option Ending) (seen : List Bool) (trail : List Event) → Searching w code points a goal seen trail [] → goal ≡ None
   unfolding pending
   exhausted a goal seen trail d = sym d.value
 
-  pub begin : (seen : List Bool) (i : ℕ) → i ≤ w.length → FailFrom w code i seen → Searching w code i (run w code (state 0 false i)) seen [] (thread 0 (state 0 false i) ∷ [])
+  pub begin : (seen : List Bool) (i : ℕ) → i ≤ w.length → FailFrom w code points i seen → Searching w code points i (run w code (state 0 false i)) seen [] (thread 0 (state 0 false i) ∷ [])
   unfolding pending replay
   begin seen i h failed = record {
     value = or_none (run w code (state 0 false i));
@@ -323,31 +396,23 @@ module _ (w : Input) (code : List Instruction) where
     inside = (omega arith, h, tt);
   }
 
-  -- a state at a later place has the lower measure
-  later : (s t : State) → t.at < s.at → s.at ≤ w.length → measure w code s < measure w code t
-  unfolding measure
-  later s t lt le = farther w.length t.at s.at (length code) _ _ lt le (small s.taken s.pc)
-    where
-      small : (b : Bool) (pc : ℕ) → weight b (length code + 1) + (length code - pc) ≤ length code + 1 + length code
-      small true pc = omega arith
-      small false pc = omega arith
-
   -- once the first thread is at the end, whatever is marked behind it fails
-  pub fail_behind : (a : ℕ) (goal : Option Ending) (seen : List Bool) (trail : List Event) (t : Thread) (ts : List Thread) → Searching w code a goal seen trail (t ∷ ts)
-      → FailFrom w code (t.at + 1) seen
+  pub fail_behind : (a : ℕ) (goal : Option Ending) (seen : List Bool) (trail : List Event) (t : Thread) (ts : List Thread) → Searching w code points a goal seen trail (t ∷ ts)
+      → FailFrom w code points (t.at + 1) seen
   fail_behind a goal seen trail t ts d s marked ok =
-      let b = d.covers s (record { pc = marked.pc; from = (let x : t.at + 1 ≤ s.at = marked.from in let y : a ≤ t.at = d.inside.0 in omega arith); within = marked.within; mark = marked.mark }) ok in
+      let b = d.covers s (record { slot = marked.slot; meets = marked.meets; from = (let x : t.at + 1 ≤ s.at = marked.from in let y : a ≤ t.at = d.inside.0 in omega arith); within = marked.within; mark = marked.mark }) ok in
       let high : measure w code (state_of t) < measure w code s = b.0 in
-      let low : measure w code s < measure w code (state_of t) = later s (state_of t) (let x : t.at + 1 ≤ s.at = marked.from in omega arith) marked.within in
+      let low : measure w code s < measure w code (state_of t) = later w code s (state_of t) (let x : t.at + 1 ≤ s.at = marked.from in omega arith) marked.within in
       omega arith
 
-  pub fail_weaker : (a b : ℕ) (seen : List Bool) → a ≤ b → FailFrom w code a seen → FailFrom w code b seen
-  fail_weaker a b seen le f s marked ok = f s (record { pc = marked.pc; from = (let x : b ≤ s.at = marked.from in omega arith); within = marked.within; mark = marked.mark }) ok
+  pub fail_weaker : (a b : ℕ) (seen : List Bool) → a ≤ b → FailFrom w code points a seen → FailFrom w code points b seen
+  fail_weaker a b seen le f s marked ok = f s (record { slot = marked.slot; meets = marked.meets; from = (let x : b ≤ s.at = marked.from in omega arith); within = marked.within; mark = marked.mark }) ok
 
   -- nothing is marked at the place itself
-  pub fail_at : (a : ℕ) (seen : List Bool) → FailFrom w code (a + 1) seen → ((s : State) → s.pc < length code → s.at ≡ a → slice_index_or seen (index (length code) s) false ≡ true → ⊥) → FailFrom w code a seen
+  pub fail_at : (a : ℕ) (seen : List Bool) → FailFrom w code points (a + 1) seen
+      → ((s : State) (slot : ℕ) → slot < points.count → s.at ≡ a → slice_index_or seen (index points.count slot s) false ≡ true → ⊥) → FailFrom w code points a seen
   fail_at a seen f clear s marked ok =
       elim (cases_lt a s.at) [
-        | inl lt ↦ f s (record { pc = marked.pc; from = (omega arith); within = marked.within; mark = marked.mark }) ok
-        | inr le ↦ absurd (clear s marked.pc (let x : a ≤ s.at = marked.from in omega arith) marked.mark)
+        | inl lt ↦ f s (record { slot = marked.slot; meets = marked.meets; from = (omega arith); within = marked.within; mark = marked.mark }) ok
+        | inr le ↦ absurd (clear s marked.slot (slot-lt points s.pc marked.slot marked.meets) (let x : a ≤ s.at = marked.from in omega arith) marked.mark)
       ]

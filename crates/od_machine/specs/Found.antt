@@ -49,8 +49,8 @@ GoesOn w code found at before from =
 abbrev pub AreFound : Input → List Instruction → List Match → Type 0
 AreFound w code found = (u : World) (p : Surface) → Finds w code u p → found ≡ scan_at u p 0
 
--- the marks that are left stood before, and are not those of this place
+-- the marks that are left stood before, and are not the so many of this place
 abbrev pub ClearsPlace : ℕ → ℕ → List Bool → List Bool → Type 0
-ClearsPlace size at old new =
+ClearsPlace width at old new =
     (n : ℕ) → slice_index_or new n false ≡ true
-    → (slice_index_or old n false ≡ true) × ((n < at * size * 2) ⊎ ((at + 1) * size * 2 ≤ n))
+    → (slice_index_or old n false ≡ true) × ((n < at * width) ⊎ ((at + 1) * width ≤ n))

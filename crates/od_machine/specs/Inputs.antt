@@ -6,6 +6,7 @@ use Rattle.od_matching.specs.Matching.Scan.{is_span_in}
 use Rattle.od_machine.specs.Machine.{Input, fits_row, run, state}
 use Rattle.od_machine.specs.Search.{replay, Searching, FailFrom}
 use Rattle.od_machine.specs.declared.instruction.Instruction.{Instruction}
+use Rattle.od_machine.specs.declared.points.Points.{Points}
 use Rattle.od_machine.specs.declared.thread.Thread.{Thread}
 use Rattle.od_machine.specs.declared.thread.Event.{Event}
 use Rattle.od_machine.specs.declared.thread.Step.{Step}
@@ -48,21 +49,22 @@ ahead (Goes next) = option_to_list next
 
 -- the search after a thread was taken up
 abbrev pub After :
-    Input → List Instruction → ℕ → Option Ending → Step → ℕ
+    Input → List Instruction → Points → ℕ → Option Ending → Step → ℕ
     → List Bool → List Event → List Thread → Type 0
-After w code from goal AtEnd at seen trail ts =
+After w code points from goal AtEnd at seen trail ts =
     (goal ≡ replay code trail (accept at))
-    × (from ≤ at) × (at ≤ w.length) × FailFrom w code (at + 1) seen
-After w code from goal (Goes next) at seen trail ts =
-    Searching w code from goal seen trail (option_to_list next ++ ts)
+    × (from ≤ at) × (at ≤ w.length) × FailFrom w code points (at + 1) seen
+After w code points from goal (Goes next) at seen trail ts =
+    Searching w code points from goal seen trail (option_to_list next ++ ts)
 
 -- whatever was searched for before a thread was taken up is searched for after it
 abbrev pub TakesUp :
-    Input → List Instruction → Thread → Step → List Bool → List Event → List Thread
+    Input → List Instruction → Points → Thread → Step → List Bool → List Event → List Thread
     → List Bool → List Event → List Thread → Type 0
-TakesUp w code from step seen trail ts seen' trail' ts' =
-    (a : ℕ) (goal : Option Ending) → Searching w code a goal seen trail (from ∷ reverse ts)
-    → After w code a goal step from.at seen' trail' (reverse ts')
+TakesUp w code points from step seen trail ts seen' trail' ts' =
+    (a : ℕ) (goal : Option Ending)
+    → Searching w code points a goal seen trail (from ∷ reverse ts)
+    → After w code points a goal step from.at seen' trail' (reverse ts')
 
 -- from the first instruction at the place no way begins, whatever else the sentence has
 abbrev pub NeverBegins : List (List Bool) → List Instruction → ℕ → Type 0
@@ -83,10 +85,11 @@ outcome code trail None = None
 outcome code trail (Some end) = replay code trail (accept end)
 
 -- behind where an attempt came to, each marked state fails
-abbrev pub FailBehind : Input → List Instruction → ℕ → Option ℕ → List Bool → Type 0
-FailBehind w code from None seen = FailFrom w code from seen
-FailBehind w code from (Some end) seen =
-    (from ≤ end) × (end ≤ w.length) × FailFrom w code (end + 1) seen
+abbrev pub FailBehind :
+    Input → List Instruction → Points → ℕ → Option ℕ → List Bool → Type 0
+FailBehind w code points from None seen = FailFrom w code points from seen
+FailBehind w code points from (Some end) seen =
+    (from ≤ end) × (end ≤ w.length) × FailFrom w code points (end + 1) seen
 
 -- another turn and none, the preferred one first
 abbrev pub choose_threads : Bool → Thread → Thread → List Thread → List Thread

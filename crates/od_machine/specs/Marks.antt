@@ -1,5 +1,5 @@
 -- Marks, kept as the bits of words.
-use Rattle.std.specs.Prelude.{◌≡◌, ℕ, ◌<◌, ◌≤◌, ◌⊎◌, ◌/◌, ◌%◌, ◌==◌, Bool, false, not, List, map, count_by, slice_index_or}
+use Rattle.std.specs.Prelude.{◌≡◌, ℕ, ◌<◌, ◌≤◌, ◌⊎◌, ◌/◌, ◌%◌, ◌==◌, Bool, false, List, map, slice_index_or}
 use Rattle.std.specs.Int.{bit_at}
 use Rattle.std.specs.List.{range_with_len, Contains}
 
@@ -30,7 +30,3 @@ pub record AreOff (from to : ℕ) (old new : List Bool) : Type 0 where
   pub others :
       (n : ℕ) → (n < from) ⊎ (to ≤ n)
       → slice_index_or new n false ≡ slice_index_or old n false
-
--- how many marks are not set
-abbrev pub unset : Visits → ℕ
-unset v = count_by not v.marks

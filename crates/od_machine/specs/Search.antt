@@ -1,10 +1,11 @@
 -- The ordered list of threads, and what it still has to say.
-use Rattle.std.specs.Prelude.{◌≡◌, ℕ, ◌+◌, ◌*◌, ◌<◌, ◌≤◌, ◌⊎◌, Bool, true, false, List, [], ◌∷◌, length, take, Option, Some, None, option_map, slice_get, slice_index_or}
+use Rattle.std.specs.Prelude.{◌≡◌, ℕ, ◌+◌, ◌*◌, ◌<◌, ◌≤◌, ◌⊎◌, Bool, true, false, List, [], ◌∷◌, length, take, set, Option, Some, None, option_map, slice_get, slice_index_or}
 use Rattle.std.specs.Option.{option_or}
 use Rattle.od_matching.specs.Matching.First.{Ending, close, open_capture}
 use Rattle.od_machine.specs.Machine.{Input, State, state, weight, measure, run}
 use Rattle.od_machine.specs.declared.instruction.Instruction.{Instruction}
 use Rattle.od_machine.specs.declared.instruction.Instruction.TheVariants.{Open, Close}
+use Rattle.od_machine.specs.declared.points.Points.{Points}
 use Rattle.od_machine.specs.declared.thread.Thread.{Thread}
 use Rattle.od_machine.specs.declared.thread.Event.{Event}
 use Rattle.od_machine.specs.declared.thread.Event.TheVariants.{Opened, Closed}
@@ -38,9 +39,19 @@ events_of (Open name) pc at = Opened pc at ∷ []
 events_of Close pc at = Closed at ∷ []
 events_of _ pc at = []
 
--- the number of a state among the marks
-abbrev pub index : ℕ → State → ℕ
-index n s = (s.at * n + s.pc) * 2 + weight s.taken 1
+-- the number of a state among the marks: two for each of so many meeting points at each place
+abbrev pub index : ℕ → ℕ → State → ℕ
+index count slot s = s.at * (2 * count) + (weight s.taken count + slot)
+
+-- the marks once a state was taken up, which is marked where ways can meet; it is taken up
+-- if it was not marked before
+abbrev pub TakesMark : ℕ → Option ℕ → State → Bool → List Bool → List Bool → Type 0
+TakesMark count None s taken_up old new = (taken_up ≡ true) × (new ≡ old)
+TakesMark count (Some slot) s true old new =
+    (slice_index_or old (index count slot s) false ≡ false)
+    × (new ≡ set old (index count slot s) true)
+TakesMark count (Some slot) s false old new =
+    (slice_index_or old (index count slot s) false ≡ true) × (new ≡ old)
 
 -- each thread's share of the trail is a front of that of the one before it
 abbrev pub Fits : ℕ → List Thread → Type 0
@@ -68,26 +79,28 @@ module _ (w : Input) (code : List Instruction) where
   Below m [] = ⊥
   Below m (t ∷ ts) = (measure w code (state_of t) < m) × (Succeeds (state_of t) ⊎ Below m ts)
 
-  -- a state from the place a on, which was taken up before
-  pub record Marked (a : ℕ) (seen : List Bool) (s : State) : Type 0 where
-    pub pc : s.pc < length code
-    pub from : a ≤ s.at
-    pub within : s.at ≤ w.length
-    pub mark : slice_index_or seen (index (length code) s) false ≡ true
+  module _ (points : Points) where
+    -- a state from the place a on, where ways can meet, which was taken up before
+    pub record Marked (a : ℕ) (seen : List Bool) (s : State) : Type 0 where
+      pub slot : ℕ
+      pub meets : slice_get points.slots s.pc ≡ Some (Some slot)
+      pub from : a ≤ s.at
+      pub within : s.at ≤ w.length
+      pub mark : slice_index_or seen (index points.count slot s) false ≡ true
 
-  -- each state from the place a on that is marked and succeeds is answered for by the threads
-  abbrev pub Covers : ℕ → List Bool → List Thread → Type 0
-  Covers a seen ts = (s : State) → Marked a seen s → Succeeds s → Below (measure w code s) ts
+    -- each state from the place a on that is marked and succeeds is answered for by the threads
+    abbrev pub Covers : ℕ → List Bool → List Thread → Type 0
+    Covers a seen ts = (s : State) → Marked a seen s → Succeeds s → Below (measure w code s) ts
 
-  -- each state from the place a on that is marked fails
-  abbrev pub FailFrom : ℕ → List Bool → Type 0
-  FailFrom a seen = Covers a seen []
+    -- each state from the place a on that is marked fails
+    abbrev pub FailFrom : ℕ → List Bool → Type 0
+    FailFrom a seen = Covers a seen []
 
-  -- the search for `goal`, the preferred way from the place a
-  pub record Searching
-      (a : ℕ) (goal : Option Ending) (seen : List Bool) (trail : List Event) (ts : List Thread)
-      : Type 0 where
-    pub value : pending trail ts ≡ goal
-    pub covers : Covers a seen ts
-    pub fits : Fits (length trail) ts
-    pub inside : Inside a w.length ts
+    -- the search for `goal`, the preferred way from the place a
+    pub record Searching
+        (a : ℕ) (goal : Option Ending) (seen : List Bool) (trail : List Event) (ts : List Thread)
+        : Type 0 where
+      pub value : pending trail ts ≡ goal
+      pub covers : Covers a seen ts
+      pub fits : Fits (length trail) ts
+      pub inside : Inside a w.length ts

@@ -6,6 +6,7 @@ ghost use Rattle.od_machine.specs.Code.{program_of, code_of, code_list, code_any
 ghost use Rattle.od_machine.specs.declared.instruction.Instruction.{Instruction as Code};
 
 use crate::instruction::Instruction;
+use crate::points::Points;
 use crate::program::Program;
 use od_pattern::pattern::{Surface, Turns};
 use od_text::list::List;
@@ -361,7 +362,9 @@ pub fn compile(alloc: Global, pattern: &Surface) -> Result<Program, NoMemory>
         return Err(NoMemory);
     }
     let code = emit_program(alloc, pattern)?;
+    let points = Points::of(alloc, code.as_slice())?;
     Ok(Program {
         code: List::from_vec(code),
+        points,
     })
 }

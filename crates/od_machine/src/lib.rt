@@ -5,6 +5,7 @@ pub mod compile;
 mod instruction;
 mod machine;
 mod marks;
+mod points;
 pub mod program;
 pub mod scan;
 pub mod spans;

@@ -1,16 +1,18 @@
 //! The search for the preferred way from a place: threads in the order of their choices.
-ghost use Rattle.std.specs.Prelude.{◌≡◌, ℕ, suc, true, ◌+◌, ◌-◌, ◌*◌, ◌^◌, ◌<◌, ◌≤◌, ◌++◌, ◌∷◌, [], Bool, false, not, List as Seq, Option, Some, None, option_to_list, if◌then◌else◌, length, map, reverse, take, count_by, bytes_eq, IsTrue, vec_len, IfOk, OnOk};
+ghost use Rattle.std.specs.Prelude.{◌≡◌, ℕ, suc, true, ◌+◌, ◌-◌, ◌*◌, ◌^◌, ◌<◌, ◌≤◌, ◌++◌, ◌∷◌, [], Bool, false, not, List as Seq, Option, Some, None, option_to_list, if◌then◌else◌, length, map, reverse, vec_len, IfSome, IfOk, OnOk};
 ghost use Rattle.od_matching.specs.Matching.First.{Ending, accept};
 ghost use Rattle.od_matching.specs.Matching.Scan.{is_span_in};
-ghost use Rattle.od_machine.specs.Marks.{unset};
-ghost use Rattle.od_machine.specs.Machine.{follow, targets, state, run, peeks};
-ghost use Rattle.od_machine.specs.Search.{thread, state_of, index, replay, Searching, FailFrom, events_of};
+ghost use Rattle.od_machine.specs.Dues.{owed, due, work_left};
+ghost use Rattle.od_machine.specs.Machine.{follow, targets, state, run, peeks, weight};
+ghost use Rattle.od_machine.specs.Points.{AreMeetingPoints, stretch};
+ghost use Rattle.od_machine.specs.Search.{thread, state_of, index, TakesMark, FailFrom, events_of};
 ghost use Rattle.od_extraction.specs.declared.mention.Labelled.{Labelled as Spanned};
 ghost use Rattle.od_machine.specs.Spans.{IsIndexOf};
 ghost use Rattle.od_machine.specs.Inputs.{holds_in, given, choose_threads, TakesUp, ahead, outcome, FailBehind};
 
 use crate::instruction::Instruction;
 use crate::marks::Marks;
+use crate::points::Points;
 use crate::spans::{SpanEntry, entries_from, take_span};
 use crate::thread::{Event, Step, Thread};
 use od_extraction::mention::Labelled;
@@ -218,15 +220,48 @@ fn jump(
     Ok(())
 }
 
-/// The number of a state among the marks.
-fn number(size: usize, tokens: usize, from: Thread) -> usize
-    requires code { from.pc < size }
+/// The number of a state's mark.
+fn number(count: usize, tokens: usize, slot: u32, from: Thread) -> usize
+    requires slot { slot < count }
     requires inside { from.at ≤ tokens }
-    requires short { (tokens + 1) * size * 2 < 2 ^ 62 }
-    ensures value { result ≡ index size (state_of from) }
-    ensures within { result < (tokens + 1) * size * 2 }
+    requires short { (tokens + 1) * (2 * count) < 2 ^ 62 }
+    ensures value { result ≡ index count slot (state_of from) }
+    ensures within { result < (tokens + 1) * (2 * count) }
 {
-    (from.at * size + from.pc) * 2 + usize::from(from.taken)
+    let bare = from.at * (2 * count) + slot as usize;
+    if from.taken { bare + count } else { bare }
+}
+
+/// Takes up a state, unless it is marked as one that was taken up before. It is marked where ways
+/// can meet. Returns whether it was taken up.
+fn take_up(
+    slot: Option<u32>,
+    count: usize,
+    tokens: usize,
+    from: Thread,
+    seen: &mut Marks,
+) -> Result<bool, NoMemory>
+    requires slot { IfSome slot (λ n. n < count) }
+    requires inside { from.at ≤ tokens }
+    requires short { (tokens + 1) * (2 * count) < 2 ^ 62 }
+    requires room { (tokens + 1) * (2 * count) ≤ length seen.old.marks }
+    requires few { seen.old.steps < 2 ^ 63 }
+    ensures mark { IfOk result (λ taken_up.
+        TakesMark count slot (state_of from) taken_up seen.old.marks seen.new.marks) }
+    ensures room { length seen.new.marks ≡ length seen.old.marks }
+    ensures steps { IfOk result (λ taken_up.
+        seen.new.steps ≡ seen.old.steps + weight taken_up 1) }
+{
+    let Some(slot) = slot else {
+        seen.step();
+        return Ok(true);
+    };
+    let n = number(count, tokens, slot, from);
+    if seen.has(n) {
+        return Ok(false);
+    }
+    seen.set(n)?;
+    Ok(true)
 }
 
 /// Puts on the trail what the instruction leaves there.
@@ -251,6 +286,7 @@ fn record_event(
 /// Takes up the first thread.
 fn visit(
     code: &[Instruction],
+    points: &Points,
     tokens: usize,
     rows: &[List<bool>],
     labels: &[Labelled],
@@ -264,33 +300,36 @@ fn visit(
     requires inside { from.at ≤ tokens }
     requires short { tokens < 2 ^ 31 }
     requires size { length code.now < 2 ^ 31 }
-    requires small { (tokens + 1) * length code.now * 2 < 2 ^ 62 }
-    requires room { (tokens + 1) * length code.now * 2 ≤ length seen.old.marks }
-    requires few { seen.old.steps + unset seen.old < 2 ^ 63 }
+    requires meet { AreMeetingPoints code.now points.now.slots }
+    requires small { (tokens + 1) * (2 * points.now.count) < 2 ^ 62 }
+    requires room { (tokens + 1) * (2 * points.now.count) ≤ length seen.old.marks }
+    requires few { seen.old.steps
+        + due points.now tokens seen.old.marks (from ∷ reverse threads.old.items) < 2 ^ 63 }
     ensures searching { IfOk result (λ step.
-        TakesUp (given tokens rows.now labels.now) code.now from step
+        TakesUp (given tokens rows.now labels.now) code.now points.now from step
         seen.old.marks trail.old.items threads.old.items
         seen.new.marks trail.new.items threads.new.items) }
     ensures room { length seen.new.marks ≡ length seen.old.marks }
     ensures progress { IfOk result (λ step.
-        unset seen.new * (tokens + 3) + (length (ahead step) + vec_len threads.new)
-        ≤ unset seen.old * (tokens + 3) + vec_len threads.old) }
-    ensures counted { OnOk result (seen.new.steps + unset seen.new
-        ≡ seen.old.steps + unset seen.old) }
+        work_left points.now tokens seen.new.marks (ahead step ++ reverse threads.new.items)
+        < work_left points.now tokens seen.old.marks (from ∷ reverse threads.old.items)) }
+    ensures counted { IfOk result (λ step. seen.new.steps
+        + due points.now tokens seen.new.marks (ahead step ++ reverse threads.new.items)
+        ≤ seen.old.steps
+        + due points.now tokens seen.old.marks (from ∷ reverse threads.old.items)) }
 {
     trail.truncate(from.events);
     if from.pc >= code.len() {
-        return Ok(Step::Goes(None));
-    }
-    let n = number(code.len(), tokens, from);
-    if seen.has(n) {
         return Ok(Step::Goes(None));
     }
     let instr = &code[from.pc];
     if let Instruction::Match = instr {
         return Ok(Step::AtEnd);
     }
-    seen.set(n)?;
+    let taken_up = take_up(points.slot(from.pc), points.count, tokens, from, seen)?;
+    if !taken_up {
+        return Ok(Step::Goes(None));
+    }
     record_event(instr, from.pc, from.at, trail)?;
     let events = trail.len();
     let next = follow(instr, tokens, rows, labels, entries, from, events, threads)?;
@@ -315,6 +354,7 @@ fn first_of(next: Option<Thread>, threads: &mut Vec<Thread>) -> Option<Thread>
 /// The preferred way from the place, if there is one: where it ends. Its events are on the trail.
 pub(crate) fn attempt(
     code: &[Instruction],
+    points: &Points,
     tokens: usize,
     rows: &[List<bool>],
     labels: &[Labelled],
@@ -328,17 +368,22 @@ pub(crate) fn attempt(
     requires inside { start ≤ tokens }
     requires short { tokens < 2 ^ 31 }
     requires size { length code.now < 2 ^ 31 }
-    requires small { (tokens + 1) * length code.now * 2 < 2 ^ 62 }
-    requires room { (tokens + 1) * length code.now * 2 ≤ length seen.old.marks }
-    requires failed { FailFrom (given tokens rows.now labels.now) code.now start seen.old.marks }
-    requires few { seen.old.steps + unset seen.old < 2 ^ 63 }
+    requires meet { AreMeetingPoints code.now points.now.slots }
+    requires small { (tokens + 1) * (2 * points.now.count) < 2 ^ 62 }
+    requires room { (tokens + 1) * (2 * points.now.count) ≤ length seen.old.marks }
+    requires failed { FailFrom (given tokens rows.now labels.now) code.now points.now
+        start seen.old.marks }
+    requires few { seen.old.steps + owed points.now tokens seen.old.marks
+        + stretch points.now.slots 0 < 2 ^ 63 }
     ensures found { IfOk result (λ end. outcome code.now trail.new.items end
         ≡ run (given tokens rows.now labels.now) code.now (state 0 false start)) }
     ensures failed { IfOk result (λ end.
-        FailBehind (given tokens rows.now labels.now) code.now start end seen.new.marks) }
+        FailBehind (given tokens rows.now labels.now) code.now points.now
+        start end seen.new.marks) }
     ensures room { length seen.new.marks ≡ length seen.old.marks }
-    ensures counted { OnOk result (seen.new.steps + unset seen.new
-        ≡ seen.old.steps + unset seen.old) }
+    ensures counted { OnOk result (seen.new.steps + owed points.now tokens seen.new.marks
+        ≤ seen.old.steps + owed points.now tokens seen.old.marks
+        + stretch points.now.slots 0) }
 {
     trail.clear();
     threads.clear();
@@ -350,7 +395,7 @@ pub(crate) fn attempt(
     });
     'search: while let Some(from) = first_of(next, threads) {
         match visit(
-            code, tokens, rows, labels, entries, from, seen, trail, threads,
+            code, points, tokens, rows, labels, entries, from, seen, trail, threads,
         )? {
             Step::AtEnd => return Ok(Some(from.at)),
             Step::Goes(then) => next = then,

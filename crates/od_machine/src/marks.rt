@@ -121,7 +121,8 @@ fn grow_blank(words: &mut Vec<u64>, count: usize) -> Result<(), NoMemory>
 impl Marks {
     /// No marks.
     pub(crate) fn new(alloc: Global) -> Marks
-        ensures { length result.marks ≡ 0 }
+        ensures none { length result.marks ≡ 0 }
+        ensures steps { result.steps ≡ 0 }
     {
         Marks {
             words: Vec::new(alloc),

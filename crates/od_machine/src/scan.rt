@@ -1,8 +1,9 @@
 //! The matches of a program's pattern in a sentence, one after another.
-ghost use Rattle.std.specs.Prelude.{◌≡◌, ℕ, ◌+◌, ◌-◌, ◌*◌, ◌^◌, ◌<◌, ◌≤◌, ◌++◌, ◌∷◌, [], Bool, true, false, not, List as Seq, Option, Some, None, length as length_of, reverse, drop, vec_len, slice_get, slice_index_or, IfOk, OnOk, IsTrue};
+ghost use Rattle.std.specs.Prelude.{◌≡◌, ℕ, ◌+◌, ◌-◌, ◌*◌, ◌^◌, ◌<◌, ◌≤◌, ◌++◌, ◌∷◌, [], Bool, true, false, not, List as Seq, Option, Some, None, length as length_of, reverse, drop, vec_len, slice_get, slice_index_or, sum, IfOk, OnOk, IsTrue};
 ghost use Rattle.od_machine.specs.Cost.{states, steps_of};
 ghost use Rattle.od_machine.specs.Found.{so_far, ClearsPlace, GoesOn, AreFound, AreMatchesOf};
-ghost use Rattle.od_machine.specs.Marks.{unset};
+ghost use Rattle.od_machine.specs.Dues.{owed};
+ghost use Rattle.od_machine.specs.Points.{AreMeetingPoints, runs};
 ghost use Rattle.od_machine.specs.Spans.{IsIndexOf, IsSpanIndex};
 ghost use Rattle.od_machine.specs.Inputs.{given, NeverBegins};
 ghost use Rattle.od_machine.specs.Search.{replay, act, name_in, FailFrom};
@@ -11,6 +12,7 @@ ghost use Rattle.od_matching.specs.Matching.First.{Ending, accept};
 use crate::instruction::Instruction;
 use crate::machine::{attempt, holds};
 use crate::marks::Marks;
+use crate::points::Points;
 use crate::program::Program;
 use crate::spans::{SpanEntry, SpanIndex};
 use crate::thread::{Event, Thread};
@@ -104,23 +106,26 @@ fn cannot_begin(code: &[Instruction], rows: &[List<bool>], at: usize) -> bool
 }
 
 /// Takes the marks at a place off.
-fn clear_place(seen: &mut Marks, size: usize, at: usize)
+fn clear_place(seen: &mut Marks, points: &Points, at: usize)
     requires place { at < 2 ^ 31 }
-    requires small { (at + 1) * size * 2 < 2 ^ 62 }
-    requires room { (at + 1) * size * 2 ≤ length_of seen.old.marks }
+    requires small { (at + 1) * (2 * points.now.count) < 2 ^ 62 }
+    requires room { (at + 1) * (2 * points.now.count) ≤ length_of seen.old.marks }
     ensures len { length_of seen.new.marks ≡ length_of seen.old.marks }
-    ensures clears { ClearsPlace size at seen.old.marks seen.new.marks }
-    ensures counted { seen.new.steps + unset seen.new
-        ≤ seen.old.steps + unset seen.old + size * 2 }
+    ensures clears { ClearsPlace (2 * points.now.count) at seen.old.marks seen.new.marks }
+    ensures steps { seen.new.steps ≡ seen.old.steps }
+    ensures owed { (tokens : ℕ) → owed points.now tokens seen.new.marks
+        ≤ owed points.now tokens seen.old.marks + 2 * sum (runs points.now.slots) }
 {
-    let to = (at + 1) * size * 2;
-    seen.clear(to - size * 2, to);
+    let width = 2 * points.count;
+    let from = at * width;
+    seen.clear(from, from + width);
 }
 
 /// Takes the match that begins at the place, if there is one. Returns where the search goes on.
 fn scan_here(
     alloc: Global,
     code: &[Instruction],
+    points: &Points,
     tokens: usize,
     rows: &[List<bool>],
     labels: &[Labelled],
@@ -135,27 +140,31 @@ fn scan_here(
     requires inside { at < tokens }
     requires short { tokens < 2 ^ 31 }
     requires size { length_of code.now < 2 ^ 31 }
-    requires small { (tokens + 1) * length_of code.now * 2 < 2 ^ 62 }
-    requires room { (tokens + 1) * length_of code.now * 2 ≤ length_of seen.old.marks }
-    requires failed { FailFrom (given tokens rows.now labels.now) code.now at seen.old.marks }
-    requires few { seen.old.steps + unset seen.old < 2 ^ 63 }
+    requires meet { AreMeetingPoints code.now points.now.slots }
+    requires small { (tokens + 1) * (2 * points.now.count) < 2 ^ 62 }
+    requires room { (tokens + 1) * (2 * points.now.count) ≤ length_of seen.old.marks }
+    requires failed { FailFrom (given tokens rows.now labels.now) code.now points.now
+        at seen.old.marks }
+    requires few { seen.old.steps + owed points.now tokens seen.old.marks
+        + length_of code.now < 2 ^ 63 }
     ensures scanned { IfOk result (λ next.
         GoesOn (given tokens rows.now labels.now) code.now
         matches.new.items next matches.old.items at) }
     ensures forward { IfOk result (λ next. (at < next) × (next ≤ tokens)) }
     ensures failed { IfOk result (λ next.
-        FailFrom (given tokens rows.now labels.now) code.now next seen.new.marks) }
+        FailFrom (given tokens rows.now labels.now) code.now points.now next seen.new.marks) }
     ensures room { length_of seen.new.marks ≡ length_of seen.old.marks }
-    ensures counted { IfOk result (λ next.
-        seen.new.steps + unset seen.new + at * length_of code.now * 2
-        ≤ seen.old.steps + unset seen.old + next * length_of code.now * 2) }
+    ensures counted { IfOk result (λ next. seen.new.steps
+        + owed points.now tokens seen.new.marks + at * length_of code.now * 2
+        ≤ seen.old.steps
+        + owed points.now tokens seen.old.marks + next * length_of code.now * 2) }
 {
     if cannot_begin(code, rows, at) {
         seen.step();
         return Ok(at + 1);
     }
     let Some(end) = attempt(
-        code, tokens, rows, labels, entries, at, seen, trail, threads,
+        code, points, tokens, rows, labels, entries, at, seen, trail, threads,
     )?
     else {
         return Ok(at + 1);
@@ -164,7 +173,7 @@ fn scan_here(
         return Ok(at + 1);
     }
     let captures = finish(alloc, code, trail, end)?;
-    clear_place(seen, code.len(), end);
+    clear_place(seen, points, end);
     matches.push(Match {
         span: Span {
             start: at as u32,
@@ -179,6 +188,7 @@ fn scan_here(
 fn scan_rows(
     alloc: Global,
     code: &[Instruction],
+    points: &Points,
     tokens: usize,
     rows: &[List<bool>],
     labels: &[Labelled],
@@ -190,10 +200,13 @@ fn scan_rows(
     requires index { IsIndexOf labels.now entries.now }
     requires short { tokens < 2 ^ 31 }
     requires size { length_of code.now < 2 ^ 31 }
+    requires meet { AreMeetingPoints code.now points.now.slots }
     requires small { (tokens + 1) * length_of code.now * 2 < 2 ^ 62 }
-    requires room { (tokens + 1) * length_of code.now * 2 ≤ length_of seen.old.marks }
-    requires failed { FailFrom (given tokens rows.now labels.now) code.now 0 seen.old.marks }
-    requires fresh { seen.old.steps + unset seen.old ≤ (tokens + 1) * length_of code.now * 2 }
+    requires room { (tokens + 1) * (2 * points.now.count) ≤ length_of seen.old.marks }
+    requires failed { FailFrom (given tokens rows.now labels.now) code.now points.now
+        0 seen.old.marks }
+    requires fresh { seen.old.steps + owed points.now tokens seen.old.marks
+        ≤ (tokens + 1) * length_of code.now * 2 }
     ensures found { IfOk result (λ found.
         AreFound (given tokens rows.now labels.now) code.now found.items) }
     ensures counted { OnOk result (
@@ -205,6 +218,7 @@ fn scan_rows(
         at = scan_here(
             alloc,
             code,
+            points,
             tokens,
             rows,
             labels,
@@ -219,22 +233,22 @@ fn scan_rows(
     Ok(matches)
 }
 
-/// How many marks there are: two for each instruction at each place.
+/// How many marks there are: two for each meeting point at each place.
 #[tactic(auto, using(crate::proofs::Founds::table_fits))]
-fn table_size(tokens: usize, size: usize) -> usize
+fn table_size(tokens: usize, count: usize) -> usize
     requires few { tokens ≤ SENTENCE_TOKENS }
-    requires short { size < 2 ^ 31 }
-    ensures value { result ≡ (tokens + 1) * size * 2 }
+    requires short { count < 2 ^ 31 }
+    ensures value { result ≡ (tokens + 1) * (2 * count) }
     ensures fits { result < 2 ^ 62 }
 {
-    (tokens + 1) * size * 2
+    (tokens + 1) * (2 * count)
 }
 
 /// The room that scans work in. Who keeps it from one scan to the next takes memory for matches
 /// alone, most of the time.
 #[derive(Drop)]
 pub struct Scanner {
-    /// Which states were taken up: two for each instruction, at each place.
+    /// Which states were taken up where ways can meet: two for each meeting point, at each place.
     seen: Marks,
     /// Where captures opened and closed on the way that is being tried.
     trail: Vec<Event>,
@@ -244,7 +258,9 @@ pub struct Scanner {
 
 impl Scanner {
     /// Room that is still empty.
-    pub fn new(alloc: Global) -> Scanner {
+    pub fn new(alloc: Global) -> Scanner
+        ensures { steps_of result ≡ 0 }
+    {
         Scanner {
             seen: Marks::new(alloc),
             trail: Vec::new(alloc),
@@ -288,10 +304,12 @@ impl Scanner {
         let code = program.code.get();
         let tokens = length as usize;
         let rows = &columns.rows.get()[first..];
-        self.seen.reset(table_size(tokens, code.len()))?;
+        let points = &program.points;
+        self.seen.reset(table_size(tokens, points.count))?;
         scan_rows(
             alloc,
             code,
+            points,
             tokens,
             rows,
             labels,

@@ -287,7 +287,9 @@ fn steps(alloc: Global, pattern: &Surface, asked: &str, tokens: u32) -> Result<u
 
 /// Of the 5 instructions of the first pattern 3 are reached at the first place and at the end, and
 /// each once at the others (one of them with and without a token taken, the last one never). Of
-/// the 11 of the second one 7 and 9, and 11. The third one's first token never stands.
+/// the 11 of the second one 7 and 9, and 11. The third one's first token never stands; where its
+/// last one never does, each start takes up all three instructions but for the end, and the last
+/// start has a place for two of them.
 #[test]
 fn no_state_is_taken_up_twice_and_a_first_test_that_fails_is_all(
     rt: HostRuntime,
@@ -299,5 +301,6 @@ fn no_state_is_taken_up_twice_and_a_first_test_that_fails_is_all(
     assert_eq!(rt; steps(alloc, &either, "aab", 2000)?, 7 + 11 * 1999 + 9);
     let three = three_letters(alloc)?;
     assert_eq!(rt; steps(alloc, &three, "baa", 2000)?, 2000);
+    assert_eq!(rt; steps(alloc, &three, "aab", 2000)?, 3 * 1999 + 2);
     Ok(())
 }

@@ -1,4 +1,4 @@
-use Rattle.std.proofs.Common.{◌≡◌, ℕ, ◌+◌, ◌-◌, ◌*◌, ◌/◌, ◌<◌, ◌≤◌, ◌⊎◌, vec_len}
+use Rattle.std.proofs.Common.{◌≡◌, ℕ, ◌+◌, ◌*◌, ◌/◌, ◌<◌, ◌≤◌, ◌⊎◌, vec_len}
 use Rattle.std.specs.Prelude.{slice_index_or, if◌then◌else◌, ◌&&◌, nat_le, nat_lt}
 use Rattle.std.specs.Int.{bit_at}
 use Rattle.od_machine.proofs.marks.clear_bits.Given as goal

@@ -1,12 +1,32 @@
-use Rattle.std.proofs.Common.{◌-◌, List, Bool, take, drop, length, subst, sym, ◌∙◌, ap}
+use Rattle.std.proofs.Common.{◌≡◌, ℕ, ◌+◌, ◌-◌, ◌*◌, ◌≤◌, List, Bool, take, drop, length, sum, arith, subst, sym, ◌∙◌, ap}
 use Rattle.std.proofs.lemmas.List.{take_rest}
 use Rattle.std.proofs.lemmas.Result.{IfOk-weaker}
 use Rattle.od_matching.proofs.Matching.Steps.{scan_of-start}
 use Rattle.od_matching.specs.Matching.Scan.{world_in}
 use Rattle.od_machine.specs.Inputs.{given}
 use Rattle.od_machine.specs.Found.{Finds, AreFound, AreMatchesOf}
+use Rattle.std.proofs.Math.Nat.{mul-le-mul_left}
+use Rattle.od_machine.specs.Points.{runs}
+use Rattle.od_machine.proofs.Dues.{owed-start}
 use Rattle.od_machine.proofs.Founds.{finds_in}
+use Rattle.od_machine.proofs.Meetings.{whole_code, length-runs_code}
 use Rattle.od_machine.proofs.scan.Scanner.scan.Goals as goal
+
+pub table_size-requires-clause-short : goal.table_size-requires-clause-short
+table_size-requires-clause-short c =
+    let program = c.args.program.now in
+    omega (arith, length-runs_code program.code program.points.slots program.meet, program.points.counted, program.short)
+
+pub scan_rows-requires-clause-fresh : goal.scan_rows-requires-clause-fresh
+scan_rows-requires-clause-fresh c =
+    let program = c.args.program.now in
+    let tokens : ℕ = c.args.length in
+    let size : ℕ = length c.get-code.result.now in
+    let runs_all : ℕ = sum (runs program.points.slots) in
+    let same : size ≡ length program.code = ap length c.get-code.ensures in
+    let few : runs_all ≤ size = omega (arith, whole_code program.code program.points.slots program.meet, same) in
+    let le : (tokens + 1) * (2 * runs_all) ≤ (tokens + 1) * (2 * size) = mul-le-mul_left (tokens + 1) (let q : 2 * runs_all ≤ 2 * size = omega arith in q) in
+    omega (arith, le, owed-start program.points tokens c.reset.new.self.marks, c.in_ok-reset.ensures.steps)
 
 pub returns-clause-found : goal.returns-clause-found
 returns-clause-found c =
