@@ -1,0 +1,4 @@
+-- The definitions of this crate.
+pub mod Lent
+pub mod Resolved
+pub mod Waiting

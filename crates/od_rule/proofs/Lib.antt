@@ -1,0 +1,6 @@
+-- The lemmas of this crate.
+pub mod Events
+pub mod Hops
+pub mod Outcomes
+pub mod Places
+pub mod Scanned
