@@ -1,0 +1,9 @@
+-- The first mentions are those of before.
+use Rattle.std.proofs.Common.{◌≡◌, length, take}
+use Rattle.od_mentions.proofs.state.State.cut.Given as goal
+
+abbrev pub invariant-loop-self : goal.invariant-loop-self
+invariant-loop-self l = take l.count l.self ≡ take l.count l.initial.self
+
+abbrev pub decreases-loop-self : goal.decreases-loop-self
+decreases-loop-self l = length l.self
