@@ -8,6 +8,7 @@ use Rattle.od_pattern.specs.declared.rule.Rule.{Rule}
 use Rattle.od_language.specs.declared.pattern_fault.PatternKind.{PatternKind}
 use Rattle.od_language.specs.WholeRuns.{Verdict, IsVerdict}
 use Rattle.std.specs.List.{AllZip}
+use Rattle.std.specs.Str.{chars}
 use Rattle.od_rule_text.specs.declared.rule_file.KeyText.{KeyText}
 use Rattle.od_rule_text.specs.Grammars.{read_as}
 use Rattle.od_rule_text.specs.Items.{basic, event}
@@ -58,19 +59,19 @@ module _ {X : Type 0} (body : X → Body) (Value : X → Type 0) (Fault : ℕ �
   }
 
 -- the value in a body
-hop_in : (text : List ℕ) (b : Body) → IsBodyText basic text b → (h : Hop) × (b ≡ Basic h) × IsHopText text h
+hop_in : (text : List ℕ) (b : Body) → IsBodyText basic text b → (h : Hop) × (b ≡ Basic h) × IsHopText (chars text) h
 hop_in text (Basic h) u = (h, refl, u)
 hop_in text (Event e) u = absurd u
 
-event_in : (text : List ℕ) (b : Body) → IsBodyText event text b → (e : EventRule) × (b ≡ Event e) × IsEventText text e
+event_in : (text : List ℕ) (b : Body) → IsBodyText event text b → (e : EventRule) × (b ≡ Event e) × IsEventText (chars text) e
 event_in text (Event e) u = (e, refl, u)
 event_in text (Basic h) u = absurd u
 
 pub bodies_are_computed : BodiesAreComputed
 bodies_are_computed basic text =
-    under Basic (IsHopText text) (IsHopTextFault text) (IsBodyText basic text) (hop_in text) (λ h u. u) (hop_of text) (hop_texts_are_computed text)
+    under Basic (IsHopText (chars text)) (IsHopTextFault (chars text)) (IsBodyText basic text) (hop_in text) (λ h u. u) (hop_of (chars text)) (hop_texts_are_computed (chars text))
 bodies_are_computed event text =
-    under Event (IsEventText text) (IsEventTextFault text) (IsBodyText event text) (event_in text) (λ e u. u) (event_of text) (events_are_computed text)
+    under Event (IsEventText (chars text)) (IsEventTextFault (chars text)) (IsBodyText event text) (event_in text) (λ e u. u) (event_of (chars text)) (events_are_computed (chars text))
 
 -- the rules of a file
 meant : (vars item : List KeyText) (rule : Rule) → IsRuleOf patterns vars item rule → IsMeant vars item rule

@@ -1,6 +1,7 @@
 -- The worked cases are computed.
 use Rattle.std.proofs.Common.{refl}
 use lib.Utf8.{encode}
+use Rattle.std.specs.Str.{chars}
 use denote.Hole.Carrier.{hidden}
 use Rattle.od_pattern.specs.declared.path.Path.TheBlock.{hidden-the_row-Path-0, hidden-the_row-Path-1}
 use Rattle.od_pattern.specs.declared.pattern.Surface.TheBlock.{hidden-the_row-Surface-0, hidden-the_row-Surface-1}
@@ -16,7 +17,7 @@ use Rattle.od_grammars.specs.Examples.{FileExamples, QueryExamples, FaultExample
 
 -- what computes them
 computing : Unit {0}
-unfolding grammar_read rule_file_of expanded priority_of surface_labels constraint_expressions surface_expressions path_expressions form field_named encode hidden hidden-the_row-Surface-0 hidden-the_row-Surface-1 hidden-the_row-Path-0 hidden-the_row-Path-1
+unfolding chars grammar_read rule_file_of expanded priority_of surface_labels constraint_expressions surface_expressions path_expressions form field_named encode hidden hidden-the_row-Surface-0 hidden-the_row-Surface-1 hidden-the_row-Path-0 hidden-the_row-Path-1
 computing = tt
 
 pub file_examples : FileExamples
@@ -25,7 +26,7 @@ file_examples = record { basic_and_event = refl }
 
 pub query_examples : QueryExamples
 unfolding computing
-query_examples = record { with_path = refl }
+query_examples = record { with_path = refl; beyond_ascii = refl }
 
 pub fault_examples : FaultExamples
 unfolding computing

@@ -2,6 +2,7 @@
 use Rattle.std.proofs.Common.{◌≡◌, ℕ, ◌+◌, arith, List, [], ◌∷◌, ◌++◌, length, Bool, true, false, refl, sym, ap, ◌∙◌, subst, append_assoc, Option, Some, None, Result, Ok, Err}
 use Rattle.std.specs.Prelude.{if◌then◌else◌, nat_lt, not, codes, IfErr}
 use Rattle.std.specs.Option.{option_or}
+use Rattle.std.specs.Str.{chars}
 use Rattle.std.proofs.lemmas.List.{length-append}
 use Rattle.od_pattern.specs.declared.grammar.GrammarKind.TheVariants.{RuleFile as OfRules, Query}
 use Rattle.od_pattern.specs.declared.rule.Body.{Body}
@@ -184,7 +185,7 @@ same_type : (s t : RuleType) (o : Option RuleType) → o ≡ Some s → o ≡ So
 same_type s t o e f = cc
 
 -- a query's pattern is its text, and of the type basic
-query_pattern : (text : List ℕ) (at : ℕ) (k : PatternKind) → IsPatternOf [] (query_entries text) at k → (whole : List ℕ) × (expanded [] text ≡ Ok whole) × IsHopTextFault whole at k
+query_pattern : (text : List ℕ) (at : ℕ) (k : PatternKind) → IsPatternOf [] (query_entries text) at k → (whole : List ℕ) × (expanded [] text ≡ Ok whole) × IsHopTextFault (chars whole) at k
 query_pattern text at k is =
     let pattern = same_text is.pattern text (value_of (codes "pattern") (query_entries text)) is.has_pattern refl in
     let type_text = same_text is.type_text (codes "basic") (value_of (codes "type") (query_entries text)) is.has_type refl in

@@ -1,6 +1,7 @@
 -- What the text of a rule's pattern is, by the definitions of patterns, and that grammars have that.
 use Rattle.std.specs.Prelude.{◌≡◌, ℕ, List, Ok}
 use Rattle.std.specs.List.{AllZip}
+use Rattle.std.specs.Str.{chars}
 use Rattle.od_pattern.specs.declared.grammar.Grammar.{Grammar}
 use Rattle.od_pattern.specs.declared.grammar.GrammarKind.TheVariants.{RuleFile as OfRules}
 use Rattle.od_pattern.specs.declared.rule.Body.{Body}
@@ -20,14 +21,14 @@ use Rattle.od_grammars.specs.Grammars.{patterns, grammar_read}
 
 -- a text is this body: in a rule of the type basic a hop, in one of the type event an event pattern
 abbrev pub IsBodyText : RuleType → List ℕ → Body → Type 0
-IsBodyText basic text (Basic hop) = IsHopText text hop
-IsBodyText event text (Event e) = IsEventText text e
+IsBodyText basic text (Basic hop) = IsHopText (chars text) hop
+IsBodyText event text (Event e) = IsEventText (chars text) e
 IsBodyText type text body = ⊥
 
 -- the first fault of a text that is none
 abbrev pub IsBodyFault : RuleType → List ℕ → ℕ → PatternKind → Type 0
-IsBodyFault basic = IsHopTextFault
-IsBodyFault event = IsEventTextFault
+IsBodyFault basic text = IsHopTextFault (chars text)
+IsBodyFault event text = IsEventTextFault (chars text)
 
 -- a text has exactly the body, or the first fault, that grammars are read with
 abbrev pub BodiesAreComputed : Type 0

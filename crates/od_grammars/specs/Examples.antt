@@ -6,7 +6,7 @@ use Rattle.od_pattern.specs.declared.path.Path.{Path}
 use Rattle.od_pattern.specs.declared.path.Path.TheVariants as path
 use Rattle.od_pattern.specs.declared.pattern.Constraint.TheVariants as constraint
 use Rattle.od_pattern.specs.declared.pattern.Field.{Field}
-use Rattle.od_pattern.specs.declared.pattern.Field.TheVariants.{Lemma, Tag}
+use Rattle.od_pattern.specs.declared.pattern.Field.TheVariants.{Word, Lemma, Tag}
 use Rattle.od_pattern.specs.declared.pattern.Surface.{Surface}
 use Rattle.od_pattern.specs.declared.pattern.Surface.TheVariants as surface
 use Rattle.od_pattern.specs.declared.pattern.Value.TheVariants.{Plain}
@@ -85,6 +85,14 @@ pub record QueryExamples : Type 0 where
         label = codes "Query";
         priority = from 1;
         body = from_to (token Tag (codes "NN")) (edge (codes "amod")) (token Tag (codes "JJ"));
+      }) ∷ [])
+  -- a text of one character, which has two bytes
+  pub beyond_ascii : HasRules Query (codes "[word=" ++ 195 ∷ 169 ∷ codes "]")
+      ((record {
+        name = codes "query";
+        label = codes "Query";
+        priority = from 1;
+        body = Basic (record { first = token Word (195 ∷ 169 ∷ []); rest = [] });
       }) ∷ [])
 
 -- a rule file of one rule with this type and this pattern, behind one whose pattern is a word

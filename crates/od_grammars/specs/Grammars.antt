@@ -1,5 +1,6 @@
 -- What a rule file or a query says, or its first fault, with patterns as their grammars read them.
 use Rattle.std.specs.Prelude.{ℕ, Bool, List}
+use Rattle.std.specs.Str.{chars}
 use Rattle.od_pattern.specs.declared.grammar.Grammar.{Grammar}
 use Rattle.od_pattern.specs.declared.grammar.GrammarKind.{GrammarKind}
 use Rattle.od_rule_text.specs.declared.grammar_fault.GrammarFault.{GrammarFault}
@@ -9,9 +10,14 @@ use Rattle.od_rule_text.specs.Grammars as with_patterns
 use Rattle.od_syntax.specs.EventVerdicts.{event_of}
 use Rattle.od_syntax.specs.HopVerdicts.{hop_of}
 
--- how patterns are read, and which regular expressions they have
+-- How patterns are read, and which regular expressions they have.
+-- The text of a pattern is bytes, and it is read by its characters.
 abbrev pub patterns : Patterns
-patterns = record { hop_of = hop_of; event_of = event_of; expressions_in = body_expressions }
+patterns = record {
+  hop_of = λ text. hop_of (chars text);
+  event_of = λ text. event_of (chars text);
+  expressions_in = body_expressions;
+}
 
 -- the grammar that a text is, with room for so many different expressions, or its first fault
 abbrev pub grammar_read : GrammarKind → List ℕ → (room : ℕ) → Answer Grammar

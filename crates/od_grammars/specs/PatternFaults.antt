@@ -1,5 +1,6 @@
 -- What a fault of a pattern says: which rule, and where in the text of its pattern.
 use Rattle.std.specs.Prelude.{◌≡◌, ℕ, ◌+◌, List, [], ◌∷◌, ◌++◌, length, Some, Ok, Err, codes}
+use Rattle.std.specs.Str.{chars}
 use Rattle.od_pattern.specs.declared.grammar.GrammarKind.TheVariants.{RuleFile as OfRules, Query}
 use Rattle.od_language.specs.declared.pattern_fault.PatternKind.{PatternKind}
 use Rattle.od_rule_text.specs.declared.grammar_fault.GrammarFault.TheVariants as fault
@@ -46,4 +47,5 @@ abbrev pub QueryFaultsAreMeant : Type 0
 QueryFaultsAreMeant =
     (text : List ℕ) (room n at : ℕ) (k : PatternKind) →
     grammar_read Query text room ≡ Err (fault.Pattern n at k) →
-    (n ≡ 1) × (whole : List ℕ) × (expanded [] text ≡ Ok whole) × IsHopTextFault whole at k
+    (n ≡ 1) × (whole : List ℕ) × (expanded [] text ≡ Ok whole) ×
+    IsHopTextFault (chars whole) at k
