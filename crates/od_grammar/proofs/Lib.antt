@@ -1,0 +1,10 @@
+-- The lemmas of this crate.
+pub mod Appearing
+pub mod Asked
+pub mod Items
+pub mod KnownLabels
+pub mod Refusals
+pub mod SurfaceLabels
+pub mod Telling
+pub mod Tests
+pub mod Wholes

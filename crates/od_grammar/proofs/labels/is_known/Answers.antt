@@ -1,0 +1,7 @@
+use Rattle.std.proofs.Common.{◌∙◌, ap, bytes_eq}
+use Rattle.std.specs.Option.{is_some}
+use Rattle.od_names.proofs.Named.{is_some-position}
+use Rattle.od_grammar.proofs.labels.is_known.Goals as goal
+
+pub returns : goal.returns
+returns c = c.is_some.ensures ∙ ap is_some c.place.ensures ∙ is_some-position (λ other. bytes_eq other c.args.label.now) c.args.labels.now
