@@ -146,6 +146,14 @@ pub all_more : (ps : List Surface) (p : Surface) → list_all is_nullable (ps ++
 all_more [] p = sym (and_true (is_nullable p))
 all_more (q ∷ ps) p = ap (λ z. is_nullable q && z) (all_more ps p) ∙ and_assoc (is_nullable q) (list_all is_nullable ps) (is_nullable p)
 
+and_false : (b : Bool) → (b && false) ≡ false
+and_false true = refl
+and_false false = refl
+
+-- not all may match no token where the last must match one
+pub not_all : (ps : List Surface) (p : Surface) → is_nullable p ≡ false → list_all is_nullable (ps ++ p ∷ []) ≡ false
+not_all ps p e = all_more ps p ∙ ap (λ z. list_all is_nullable ps && z) e ∙ and_false (list_all is_nullable ps)
+
 pub any_more : (ps : List Surface) (p : Surface) → list_any is_nullable (ps ++ p ∷ []) ≡ (list_any is_nullable ps || is_nullable p)
 any_more [] p = sym (or_false (is_nullable p))
 any_more (q ∷ ps) p = ap (λ z. is_nullable q || z) (any_more ps p) ∙ or_assoc (is_nullable q) (list_any is_nullable ps) (is_nullable p)

@@ -1,6 +1,6 @@
 -- A surface pattern read from lexemes up to where it stops, with what stands there: what the contracts
 -- of the parser's parts speak of.
-use Rattle.std.specs.Prelude.{ℕ, Bool, false, ◌==◌, List, [], ◌∷◌, ◌++◌, Option, Some, None, Ok, if◌then◌else◌}
+use Rattle.std.specs.Prelude.{◌≡◌, ℕ, Bool, false, ◌==◌, List, [], ◌∷◌, ◌++◌, Option, Some, None, Ok, if◌then◌else◌}
 use Rattle.od_pattern.specs.declared.pattern.Surface.{Surface}
 use Rattle.od_language.specs.declared.pattern_fault.PatternKind.{PatternKind}
 use Rattle.od_language.specs.declared.pattern_fault.PatternKind.TheVariants as kind
@@ -104,6 +104,11 @@ abbrev pub on_from : Places → ℕ → Surface → List Surface → List Surfac
     List Lexeme → Option (ℕ × Option ℕ) → Outcome Lexeme Left
 on_from places d p a s k here there None = run places d (turned a (s ++ p ∷ []) k) here
 on_from places d p a s k here there (Some t) = run places d (counted p t.0 t.1 a s k) there
+
+-- behind an atom no quantifier comes
+abbrev pub IsUnrepeated : List Lexeme → Type 0
+IsUnrepeated l = (places : Places) (d : ℕ) (p : Surface) (a s : List Surface) (k : Around) →
+    run places d (part p a s k) l ≡ run places d (turned a (s ++ p ∷ []) k) l
 
 -- where there is something, this holds
 abbrev pub IsSomeOnly : {X : Type 0} → Type 0 → Option X → Type 0

@@ -1,5 +1,5 @@
 //! The atoms of a surface pattern that have no pattern inside.
-ghost use Rattle.std.specs.Prelude.{◌≡◌, ℕ, ◌+◌, ◌-◌, ◌<◌, ◌≤◌, Bool, List, [], ◌∷◌, drop, length, Option, Some, None, Ok, Err, MatchResult, IfOk};
+ghost use Rattle.std.specs.Prelude.{◌≡◌, ℕ, ◌+◌, ◌-◌, ◌<◌, ◌≤◌, Bool, List, [], ◌∷◌, ◌++◌, drop, length, Option, Some, None, Ok, Err, MatchResult, IfOk};
 ghost use Rattle.std.specs.List.{list_all};
 ghost use Rattle.od_pattern.specs.declared.pattern.Constraint.{Constraint};
 ghost use Rattle.od_pattern.specs.declared.pattern.Field.TheVariants as field;
@@ -23,6 +23,7 @@ use od_language::limits::IDENTIFIER_BYTES;
 use od_language::pattern_fault::PatternFault;
 use od_lex::constraint_at;
 use od_pattern::pattern::{Constraint, Field, Surface, Value};
+use od_text::list::List;
 use od_text::text::{Copied, Text};
 use std::alloc::Global;
 
@@ -70,6 +71,17 @@ pub fn plain(alloc: Global, text: &Text) -> Result<Surface, PatternFault>
 {
     let folded = default_case_fold_str(alloc, text.get())?;
     Ok(of_norm(Value::Plain(Text::from_string(folded))))
+}
+
+/// One more part at the end: a token with this norm, which is folded.
+pub fn push_plain(alloc: Global, list: &mut List<Surface>, text: &Text) -> Result<(), PatternFault>
+    ensures { MatchResult result
+        (λ _. list.new ≡ list.old ++ norm (asked.Plain (compared_text field.Norm text.now)) ∷ [])
+        (λ e. e ≡ PatternFault.NoMemory) }
+{
+    let folded = default_case_fold_str(alloc, text.get())?;
+    list.push(of_norm(Value::Plain(Text::from_string(folded))))?;
+    Ok(())
 }
 
 fn begins_name(b: u8) -> bool

@@ -14,9 +14,9 @@ ghost use Rattle.od_syntax.specs.SurfaceMachine.{Around, top, round, atom, part,
 ghost use Rattle.od_surface.specs.Reading.{run};
 
 use crate::lexemes::{Places, bad, is_again, is_atom, is_or, next, unexpected};
-use crate::single::{Found, copied, label, looking, of_norm, plain, read, token};
+use crate::single::{Found, copied, label, looking, of_norm, plain, push_plain, read, token};
 use crate::sizes::{one_more, together};
-use crate::turns::quantified;
+use crate::turns::{quantified, unrepeated_text};
 use od_language::lexeme::{LexKind, Lexeme};
 use od_language::limits::{EXPRESSION_BYTES, OPEN_BRACKETS};
 use od_language::pattern_fault::{PatternFault, PatternKind};
@@ -215,7 +215,7 @@ fn surface_part(
 
 /// Parts one after another: a choice.
 #[cycle(surface)]
-#[tactic(auto, using(crate::proofs::Moves::to_atom, crate::proofs::Moves::from_turned, crate::proofs::Moves::all_more, crate::proofs::Moves::order_nullable, crate::proofs::Counted::order_first, crate::proofs::Counted::order_more, crate::proofs::Counted::order_size_is, crate::proofs::Counted::counted_most))]
+#[tactic(auto, using(crate::proofs::Moves::to_atom, crate::proofs::Moves::from_turned, crate::proofs::Moves::all_more, crate::proofs::Moves::not_all, crate::proofs::Moves::order_nullable, crate::proofs::Counted::order_first, crate::proofs::Counted::order_more, crate::proofs::Counted::order_size_is, crate::proofs::Counted::counted_most))]
 pub fn parts(
     alloc: Global,
     lexemes: &[Lexeme],
@@ -242,6 +242,14 @@ pub fn parts(
     let mut list = List::new(alloc);
     list.push(pattern)?;
     while is_atom(lexemes, i) {
+        // Most parts are words: one is not built apart and moved.
+        if let Some(text) = unrepeated_text(lexemes, i) {
+            push_plain(alloc, &mut list, text)?;
+            all = false;
+            sum = together(sum, 1);
+            i += 1;
+            continue;
+        }
         let Found {
             pattern,
             nullable,

@@ -1,15 +1,18 @@
 //! Quantifiers of surface patterns.
-ghost use Rattle.std.specs.Prelude.{◌≡◌, ℕ, ◌+◌, ◌<◌, ◌≤◌, ◌==◌, ◌||◌, List, [], ◌∷◌, ◌++◌, drop, length, Option, Some, None, Ok, Err, MatchResult, IfOk, if◌then◌else◌};
+ghost use Rattle.std.specs.Prelude.{◌≡◌, ℕ, ◌+◌, ◌<◌, ◌≤◌, ◌==◌, ◌||◌, List, [], ◌∷◌, ◌++◌, drop, length, Option, Some, None, Ok, Err, MatchBool, MatchResult, IfOk, IfSome, if◌then◌else◌};
+ghost use Rattle.od_pattern.specs.declared.pattern.Field.TheVariants as field;
 ghost use Rattle.od_pattern.specs.declared.pattern.Surface.{Surface};
+ghost use Rattle.od_pattern.specs.declared.pattern.Value.TheVariants as asked;
 ghost use Rattle.od_pattern.specs.Nullable.{is_nullable};
 ghost use Rattle.od_language.specs.declared.pattern_fault.PatternKind.TheVariants as kind;
 ghost use Rattle.od_language.specs.declared.lexeme.Lexeme.{Lexeme};
 ghost use Rattle.od_language.specs.Depth.{is_bad_range};
+ghost use Rattle.od_language.specs.Fields.{compared_text};
 ghost use Rattle.od_language.specs.Machine.{GoesOn};
 ghost use Rattle.od_syntax.specs.Sizes.{counted, surface_size, repeat_size};
-ghost use Rattle.od_syntax.specs.SurfaceMachine.{Around, part, counted as behind_quantifier, turned, repeat};
+ghost use Rattle.od_syntax.specs.SurfaceMachine.{Around, atom, norm, part, counted as behind_quantifier, turned, repeat};
 ghost use Rattle.od_surface.specs.declared.lexemes.Places.{Places};
-ghost use Rattle.od_surface.specs.Reading.{run, on_from, IsSomeOnly};
+ghost use Rattle.od_surface.specs.Reading.{run, on_from, IsSomeOnly, IsUnrepeated};
 
 use crate::lexemes::{Places, bad, next};
 use crate::single::{Found, read};
@@ -17,6 +20,7 @@ use crate::sizes::repeated_size;
 use od_language::lexeme::{LexKind, Lexeme};
 use od_language::pattern_fault::{PatternFault, PatternKind};
 use od_pattern::pattern::{Surface, Turns};
+use od_text::text::Text;
 use sqlite_items::Boxed;
 use std::alloc::Global;
 
@@ -84,6 +88,45 @@ fn laziness(lexemes: &[Lexeme], from: usize) -> (bool, usize)
         },
         None => (false, from),
     }
+}
+
+/// Whether a quantifier comes.
+fn is_quantifier(lexemes: &[Lexeme], i: usize) -> bool
+    ensures { MatchBool result (i < length lexemes.now) (IsUnrepeated (drop i lexemes.now)) }
+{
+    match next(lexemes, i) {
+        Some(x) => match x.kind {
+            LexKind::Question => true,
+            LexKind::Star => true,
+            LexKind::Plus => true,
+            LexKind::Range(_, _) => true,
+            _ => false,
+        },
+        None => false,
+    }
+}
+
+/// The text of a word, or of a quoted text, behind which no quantifier comes.
+pub fn unrepeated_text(lexemes: &[Lexeme], from: usize) -> Option<&Text>
+    ensures on { IfSome result (λ text. from < length lexemes.now) }
+    ensures goes { IfSome result (λ text.
+        (places : Places) (d : ℕ) (a s : List Surface) (k : Around) →
+        run places d (atom a s k) (drop from lexemes.now) ≡
+        run places d (turned a (s ++ norm (asked.Plain (compared_text field.Norm text.now)) ∷ []) k)
+        (drop (from + 1) lexemes.now)) }
+{
+    let text = match next(lexemes, from) {
+        Some(x) => match &x.kind {
+            LexKind::Word(text) => text,
+            LexKind::Quoted(text) => text,
+            _ => return None,
+        },
+        None => return None,
+    };
+    if is_quantifier(lexemes, from + 1) {
+        return None;
+    }
+    Some(text)
 }
 
 /// How often the atom before is repeated at least and at most, if a quantifier comes.
