@@ -11,7 +11,7 @@ use Rattle.od_constraint.specs.Runners.{patterns_of, HaveAll}
 use Rattle.od_grammars.proofs.SameExpressions.{expressions_are_asked}
 use Rattle.od_rule_text.specs.Expressions.{Appearance, appearances_in, appearances, first_of_each, expressions_of, body_expressions}
 use Rattle.od_rule_text.specs.Texts.{is_among}
-use Rattle.od_grammar.proofs.Tests.{same_text}
+use Rattle.od_grammar.proofs.Among.{same_text}
 
 -- one of some texts is contained in them
 contained : (texts : List (List ℕ)) (x : List ℕ) → is_among texts x ≡ true → Contains texts x

@@ -8,7 +8,7 @@ use Rattle.od_rule_text.specs.Grammars.{label_fault, names_labels_of}
 use Rattle.od_rule_text.specs.Labels.{body_labels}
 use Rattle.od_rule_text.specs.Texts.{is_among}
 use Rattle.od_grammar.specs.Known.{AddsLabel, AreLabels, unknown_label}
-use Rattle.od_grammar.proofs.Tests.{or_false, or_true, same_text}
+use Rattle.od_grammar.proofs.Among.{or_false, or_true, same_text}
 
 -- ## The labels of rules
 

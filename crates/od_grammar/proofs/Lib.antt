@@ -1,4 +1,5 @@
 -- The lemmas of this crate.
+pub mod Among
 pub mod Appearing
 pub mod Asked
 pub mod Items
@@ -6,5 +7,4 @@ pub mod KnownLabels
 pub mod Refusals
 pub mod SurfaceLabels
 pub mod Telling
-pub mod Tests
 pub mod Wholes

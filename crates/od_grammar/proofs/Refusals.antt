@@ -9,7 +9,7 @@ use Rattle.od_rule_text.specs.Texts.{is_among}
 use Rattle.od_grammar.specs.declared.expressions.Use.{Use}
 use Rattle.od_grammar.specs.Faults.{accepts_all_but, refused_since}
 use Rattle.od_grammar.specs.Uses.{AreNew, use_of, uses}
-use Rattle.od_grammar.proofs.Tests.{neither, own_text, other_text, among_more}
+use Rattle.od_grammar.proofs.Among.{neither, own_text, other_text, among_more}
 
 -- an expression behind others is none of those seen
 not_seen : (seen : List (List ℕ)) (before : List Appearance) (a : Appearance) (behind : List Appearance) → AreNew seen (before ++ a ∷ behind) → is_among seen a.expression ≡ false

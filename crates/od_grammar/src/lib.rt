@@ -8,5 +8,7 @@ mod limit;
 mod making;
 mod reading;
 mod runners;
+#[cfg(test)]
+mod tests;
 
 pub use building::{Built, build};

@@ -1,4 +1,3 @@
 -- The lemmas of this crate.
 pub mod Accepted
 pub mod After
-pub mod Queries

@@ -1,5 +1,5 @@
 -- What the one-thread object has, and the tests that its refusals ask.
-use Rattle.std.specs.Prelude.{◌≡◌, ℕ, ◌+◌, List, [], length, take, find, sum_by, Option, Some, None, is_some, unwrap_or, not, Bool, true, false, ◌&&◌, ◌||◌, nat_lt, nat_le, bytes_eq}
+use Rattle.std.specs.Prelude.{◌≡◌, ℕ, ◌+◌, List, [], length, take, find, sum_by, Option, Some, None, unwrap_or, Bool, true, false, ◌&&◌, ◌||◌, nat_lt, nat_le, bytes_eq}
 use Rattle.std.specs.List.{list_any}
 use Rattle.od_document.specs.declared.doc.Doc.{Doc}
 use Rattle.od_pattern.specs.declared.grammar.Head.{Head}
@@ -12,7 +12,7 @@ use Rattle.od_extraction.specs.declared.phase.Phase.{Phase}
 use Rattle.od_session.specs.declared.object.SessionState.{SessionState}
 use Rattle.od_session.specs.declared.object.OneThread.{OneThread}
 use Rattle.od_session.specs.declared.object.TheConstants.{ALL_DOCUMENTS, ALL_BYTES}
-use Rattle.od_language.specs.Query.{grammar_of}
+use Rattle.od_session.specs.Grammars.{grammar_of}
 use Rattle.od_text.specs.Lists.{EachPoint}
 use Rattle.od_matching.specs.Rounds.Round.{round}
 use Rattle.od_extraction.specs.Joined.{joined}
@@ -41,10 +41,6 @@ is_full o size = nat_le ALL_DOCUMENTS (length o.docs) || nat_lt ALL_BYTES (size_
 -- the grammar of a head is accepted
 abbrev pub IsAccepted : Head → Type 0
 IsAccepted head = (grammar : Grammar) × (grammar_of head.kind head.text ≡ Some grammar)
-
--- the first head whose grammar is not accepted
-abbrev pub first_refused : List Head → Option Head
-first_refused heads = find (λ h. not (is_some (grammar_of h.kind h.text))) heads
 
 -- the session has the name
 abbrev pub is_named : List ℕ → SessionState → Bool

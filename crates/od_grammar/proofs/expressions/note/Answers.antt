@@ -3,7 +3,7 @@ use Rattle.std.proofs.lemmas.List.{map-append}
 use Rattle.od_grammar.specs.declared.expressions.Use.{Use}
 use Rattle.od_grammar.specs.Uses.{use_of, uses}
 use Rattle.od_grammar.proofs.Appearing.{noted_again, noted_new}
-use Rattle.od_grammar.proofs.Tests.{among_at, not_among}
+use Rattle.od_grammar.proofs.Among.{among_at, not_among}
 use Rattle.od_grammar.proofs.expressions.note.Goals as goal
 
 pub returns-in-Some : goal.returns-in-Some

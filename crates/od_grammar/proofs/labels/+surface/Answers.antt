@@ -3,7 +3,7 @@ use Rattle.std.specs.List.{list_all}
 use Rattle.od_rule_text.specs.Labels.{surface_labels}
 use Rattle.od_rule_text.specs.Texts.{is_among}
 use Rattle.od_grammar.proofs.SurfaceLabels.{labels_label, labels_repeat, labels_capture}
-use Rattle.od_grammar.proofs.Tests.{and_true}
+use Rattle.od_grammar.proofs.Among.{and_true}
 use Rattle.od_grammar.proofs.labels.+surface.Goals as goal
 
 pub surface_is_known-returns-in-Label : goal.surface_is_known-returns-in-Label

@@ -1,6 +1,6 @@
 use Rattle.std.proofs.Common.{sym}
 use Rattle.od_grammar.proofs.KnownLabels.{label_there}
-use Rattle.od_grammar.proofs.Tests.{among_at}
+use Rattle.od_grammar.proofs.Among.{among_at}
 use Rattle.od_grammar.proofs.labels.note_label.Goals as goal
 
 pub returns-in-Some : goal.returns-in-Some
