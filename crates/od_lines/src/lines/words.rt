@@ -1,54 +1,54 @@
 //! The text of a span of tokens.
-ghost use Rattle.std.specs.Prelude.{◌≡◌, ◌-◌, ◌∷◌, ◌++◌, take, drop, IfOk, OnOk, string_bytes, map, flat_map};
-ghost use Rattle.std.specs.List.{join_with_byte};
+ghost use Rattle.std.specs.Prelude.{◌≡◌, ◌<◌, ◌≤◌, length, IsSomeAnd, IfOk, slice_get, string_bytes};
 ghost use Rattle.od_command.specs.Lines.Mentions.{text_in};
+ghost use Rattle.od_lines.specs.Words.{tokens_of};
 
-use od_document::token::Token;
+use od_pattern::pattern::Field;
+use od_postings::IdSentence;
 use std::alloc::{AllocError, Global};
 
-/// The tokens from a start to an end that is not included, numbered from 0, as far as they are there.
-fn tokens_between(tokens: &[Token], start: u32, end: u32) -> &[Token]
-    ensures { result.now ≡ take (end - start) (drop start tokens.now) }
+/// The word of a token. Tokens are numbered from 0 and below the number of tokens.
+fn word_of(words: &IdSentence, token: u32) -> &str
+    requires { token < length words.now.sentence.tokens }
+    ensures { IsSomeAnd (slice_get words.now.sentence.tokens token) (λ t. t.word ≡ result.now) }
 {
-    let behind = &tokens[tokens.len().min(start as usize)..];
-    &behind[..behind.len().min(end.saturating_sub(start) as usize)]
-}
-
-/// Adds the words of tokens, each behind a space.
-fn add_words(text: &mut String, tokens: &[Token]) -> Result<(), AllocError>
-    ensures { OnOk result (string_bytes text.new
-        ≡ string_bytes text.old ++ flat_map (λ token. 32 ∷ token.word) tokens.now) }
-{
-    for token in tokens {
-        text.push(' ')?;
-        text.push_str(token.word.get())?;
-    }
-    Ok(())
-}
-
-/// The words of tokens, joined by one space.
-fn joined_words(alloc: Global, tokens: &[Token]) -> Result<String, AllocError>
-    ensures { IfOk result (λ text.
-        string_bytes text ≡ join_with_byte 32 (map (λ token. token.word) tokens.now)) }
-{
-    match tokens {
-        [] => Ok(String::new(alloc)),
-        [first, rest @ ..] => {
-            let mut text = String::from_str(alloc, first.word.get())?;
-            add_words(&mut text, rest)?;
-            Ok(text)
-        }
-    }
+    let number = words.number(token, Field::Word).unwrap();
+    words.table().text(number).1
 }
 
 /// The words from a start to an end that is not included, joined by one space.
-pub fn span_text(
+fn joined_words(
     alloc: Global,
-    tokens: &[Token],
+    words: &IdSentence,
     start: u32,
     end: u32,
 ) -> Result<String, AllocError>
-    ensures { IfOk result (λ text. string_bytes text ≡ text_in tokens.now start end) }
+    requires { end ≤ length words.now.sentence.tokens }
+    ensures { IfOk result (λ text.
+        string_bytes text ≡ text_in words.now.sentence.tokens start end) }
 {
-    joined_words(alloc, tokens_between(tokens, start, end))
+    let mut text = String::new(alloc);
+    for token in start..end {
+        if token > start {
+            text.push(' ')?;
+        }
+        text.push_str(word_of(words, token))?;
+    }
+    Ok(text)
+}
+
+/// The words from a start to an end that is not included, as far as they are there, joined by one
+/// space. Where there is no sentence there are none.
+pub fn span_text(
+    alloc: Global,
+    words: Option<&IdSentence>,
+    start: u32,
+    end: u32,
+) -> Result<String, AllocError>
+    ensures { IfOk result (λ text. string_bytes text ≡ text_in (tokens_of words.entry) start end) }
+{
+    match words {
+        None => Ok(String::new(alloc)),
+        Some(words) => joined_words(alloc, words, start, end.min(words.len())),
+    }
 }

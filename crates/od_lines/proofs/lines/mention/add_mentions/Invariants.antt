@@ -4,4 +4,4 @@ use Rattle.od_lines.proofs.lines.mention.add_mentions.Given as goal
 
 -- the lines of the mentions before the next one stand
 abbrev pub invariant-loop-mention : goal.invariant-loop-mention
-invariant-loop-mention l = l.lines.items ≡ l.fn.out.items ++ flat_map (mention_line l.session l.docs) (take l.mention-index l.mentions)
+invariant-loop-mention g l = l.lines.items ≡ l.fn.out.items ++ flat_map (mention_line l.session l.docs) (take l.mention-index l.mentions)

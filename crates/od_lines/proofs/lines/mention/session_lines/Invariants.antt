@@ -1,8 +1,5 @@
-use Rattle.std.proofs.Common.{◌≡◌, take, flat_map}
-use Rattle.od_command.specs.Lines.Mentions.{mention_line}
-use Rattle.od_extraction.specs.Joined.{joined}
+-- The ledger of a counter is the blank's.
 use Rattle.od_lines.proofs.lines.mention.session_lines.Given as goal
 
--- the lines of the rounds before the next one stand
-abbrev pub invariant-loop-round : goal.invariant-loop-round
-invariant-loop-round l = l.lines.items ≡ flat_map (mention_line l.session l.docs) (joined (take l.round-index l.rounds))
+abbrev pub ghosts-counted_lines : goal.ghosts-counted_lines
+ghosts-counted_lines a = record { name = a.blank.name; parts = a.blank.parts }

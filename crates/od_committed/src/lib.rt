@@ -1,0 +1,6 @@
+//! Committed documents.
+#![tactic(auto)]
+
+mod committed;
+
+pub use committed::Committed;
