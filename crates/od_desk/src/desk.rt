@@ -5,11 +5,11 @@ ghost use Rattle.od_model.specs.History.Orders.{GoesOn};
 use crate::shown::entry_lines;
 use od_command::history::{Command, Entry, Reply};
 use od_extraction::phase::Phase;
-use od_io::{Sink, write_whole};
+use od_heads::Heads;
+use od_io::{Runner, Sink, write_whole};
 use od_text::text::NoMemory;
 use od_workspace::workspace::Workspace;
 use od_workspace::workspace::change::Answer;
-use od_workspace::workspace::heads::Heads;
 use std::alloc::{AllocError, Global};
 use std::marker::Model;
 use std::snapshot::Snapshot;
@@ -47,9 +47,9 @@ impl From<AllocError> for Stop {
 
 /// The committed documents and the sessions, the answered commands, and the sink that took their lines.
 #[derive(Drop)]
-pub struct Desk<W: Sink> {
+pub struct Desk<W: Sink, R: Runner> {
     /// The grammars that `open` may name.
-    heads: Heads,
+    heads: Heads<R>,
     workspace: Workspace,
     history: Vec<Entry>,
     sink: W,
@@ -61,7 +61,7 @@ pub struct Desk<W: Sink> {
     before: Snapshot<W>,
 }
 
-impl<W: Sink> Model for Desk<W> {
+impl<W: Sink, R: Runner> Model for Desk<W, R> {
     ghost use Rattle.od_desk.specs.Desks.{DeskState, IsDesk, taken};
 
     ghost Value = { DeskState };
@@ -93,7 +93,7 @@ fn goes_on(reply: &Reply) -> bool
     }
 }
 
-impl<W: Sink> Desk<W> {
+impl<W: Sink, R: Runner + Drop> Desk<W, R> {
     ghost use Rattle.std.specs.Prelude.{◌≡◌, ◌↔◌, ℕ, ◌+◌, List as Seq, length, true, false, IfOk, OnErr, IsTrue, IsErrOf};
     ghost use Rattle.od_command.specs.declared.history.Entry.{Entry};
     ghost use Rattle.od_text.specs.Lists.{Each};
@@ -105,7 +105,7 @@ impl<W: Sink> Desk<W> {
     ghost use Rattle.od_desk.specs.Further.{OneMore, AtMostOne, Climbs};
 
     /// A desk with no document and no session.
-    pub fn new(alloc: Global, heads: Heads, sink: W) -> Desk<W>
+    pub fn new(alloc: Global, heads: Heads<R>, sink: W) -> Desk<W, R>
         requires accepted { Each IsAccepted heads }
         ensures { result ≡ opened_desk (record {
           heads = heads;
@@ -152,7 +152,9 @@ impl<W: Sink> Desk<W> {
         ensures kept { IsErrOf result Stop.NoMemory → self.new.history ≡ self.old.history }
         ensures cut { self.new.cut ≡ is_cut result }
     {
-        let answer = self.workspace.answer(alloc, &self.heads, caller, &command)?;
+        let answer = self
+            .workspace
+            .answer(alloc, &mut self.heads, caller, &command)?;
         let Answer { reply, change } = answer;
         let goes = goes_on(&reply);
         let entry = Entry {

@@ -1,5 +1,5 @@
 -- The lemmas of this crate.
 pub mod ClientLemmas
 pub mod Outcomes
-pub mod Pieces
 pub mod Steps
+pub mod Sent

@@ -1,5 +1,5 @@
 -- How a run ends.
-use Rattle.std.proofs.Common.{◌≡◌, ◌⊎◌, ℕ, ◌<◌, List, [], length, Option, Some, None, Result, Ok, Err, Bool, true, false, if◌then◌else◌, refl, ap, subst, inl, inr, lt-ltb}
+use Rattle.std.proofs.Common.{◌≡◌, ◌⊎◌, ℕ, ◌<◌, List, [], length, Option, Some, None, Result, Ok, Err, Bool, true, false, if◌then◌else◌, refl, sym, ap, subst, inl, inr, lt-ltb}
 use Rattle.std.specs.Prelude.{is_err, IfOk, IsTrue}
 use Rattle.std.specs.Option.{IfSome}
 use Rattle.od_command.specs.declared.history.Entry.{Entry}
@@ -10,6 +10,7 @@ use Rattle.od_order.specs.declared.script_kind.ScriptKind.TheVariants.{TooLong}
 use Rattle.od_io.specs.declared.streams.Failed.{Failed}
 use Rattle.od_model.specs.declared.status.Status.{Status}
 use Rattle.od_model.specs.declared.status.Status.TheVariants.{NoScript, BadGrammar, ReadFault, NoMemory}
+use Rattle.od_session.specs.Grammars.{AreRead}
 use Rattle.od_session.specs.Parts.{nothing}
 use Rattle.od_model.specs.History.Orders.{Follows, Begins}
 use Rattle.od_model.specs.Run.Clients.{EachClient, OfClients, IsHistoryOf, has_refusal}
@@ -22,19 +23,19 @@ use Rattle.od_desk.specs.Desks.{Taken, Origin, DeskState, AreLines, IsDesk}
 use Rattle.od_serve.specs.Running.Ends.{RunOutcome, NeverBegan, run_status}
 
 -- the history of a desk that began with a script's grammars, and its clients' entries
-pub history-of : (script : Script) (d : DeskState) → d.origin.heads ≡ script.heads → IsDesk d → OfClients script.clients d.history → EachClient Begins script.clients d.history → IsHistoryOf d.origin.start script d.history
-history-of script d heads desk callers begins = rw (← heads) (record {
-  accepted = desk.accepted;
+pub history-of : (script : Script) (d : DeskState) → d.origin.heads ≡ script.heads → AreRead script.heads → IsDesk d → OfClients script.clients d.history → EachClient Begins script.clients d.history → IsHistoryOf d.origin.start script d.history
+history-of script d heads read desk callers begins = rw (← heads) (record {
+  read = subst AreRead (sym heads) read;
   legal = desk.legal;
   callers = callers;
   begins = begins;
   prints = λ sound. prints-rounds d.origin.start d.origin.heads d.history sound desk.accepted desk.legal;
 })
 
-module _ (script : Script) (d : DeskState) (left : Option (List ℕ)) (is : IsScriptOf left script) (heads : d.origin.heads ≡ script.heads)
+module _ (script : Script) (d : DeskState) (left : Option (List ℕ)) (is : IsScriptOf left script) (heads : d.origin.heads ≡ script.heads) (read : AreRead script.heads) (refused : List (List ℕ))
     (desk : IsDesk d) (callers : OfClients script.clients d.history) (begins : EachClient Begins script.clients d.history) where
   abbrev Ended : Status → Type 0
-  Ended status = Outcome d.origin.start status d.history (record { left = left; before = d.origin.sink.bytes; now = d.sink.bytes })
+  Ended status = Outcome d.origin.start status d.history (record { left = left; before = d.origin.sink.bytes; now = d.sink.bytes; refused = refused })
 
   lines-at : (cut : Bool) → d.cut ≡ cut → AreLines cut d.origin d.history d.sink.bytes
   lines-at cut e = subst (λ b. AreLines b d.origin d.history d.sink.bytes) e desk.lines
@@ -43,28 +44,28 @@ module _ (script : Script) (d : DeskState) (left : Option (List ℕ)) (is : IsSc
   written e = subst (λ hs. IsWritten d.origin.start hs d.history d.origin.sink.bytes d.sink.bytes) heads (lines-at false e)
 
   -- every command was answered
-  answered : EachClient Follows script.clients d.history → d.cut ≡ false → (refused : Bool) → has_refusal d.history ≡ refused → Ended (run_status (Ok true) refused)
-  answered follows whole true refused = record { script = script; is = is; history_of = history-of script d heads desk callers begins; follows = follows; written = written whole; refusal = refused }
-  answered follows whole false refused = record { script = script; is = is; history_of = history-of script d heads desk callers begins; follows = follows; written = written whole; refusal = refused }
+  answered : EachClient Follows script.clients d.history → d.cut ≡ false → (some : Bool) → has_refusal d.history ≡ some → Ended (run_status (Ok true) some)
+  answered follows whole true some = record { script = script; is = is; history_of = history-of script d heads read desk callers begins; follows = follows; written = written whole; refusal = some }
+  answered follows whole false some = record { script = script; is = is; history_of = history-of script d heads read desk callers begins; follows = follows; written = written whole; refusal = some }
 
   -- how a run ended, by its clients
   pub ended : (followed : Result Bool Failed) → IfOk followed (λ whole. IsTrue whole → EachClient Follows script.clients d.history) → d.cut ≡ is_err followed → Ended (run_status followed (has_refusal d.history))
   ended (Ok true) follows cut = answered (follows refl) cut (has_refusal d.history) refl
-  ended (Ok false) follows cut = inr (record { script = script; is = is; history_of = history-of script d heads desk callers begins; written = written cut })
+  ended (Ok false) follows cut = inr (record { script = script; is = is; history_of = history-of script d heads read desk callers begins; written = written cut })
   ended (Err failed) follows cut = record {
     script = script;
     is = is;
-    history_of = history-of script d heads desk callers begins;
+    history_of = history-of script d heads read desk callers begins;
     cut = subst (λ hs. IsCutShort d.origin.start hs d.history d.origin.sink.bytes d.sink.bytes) heads (lines-at true cut);
   }
 
 -- a run that never began says nothing but why
-pub unrun : (status : Status) (left now : Option (List ℕ)) → NeverBegan left status → RunOutcome status [] (record { left = left; before = now; now = now })
-unrun (NoScript line kind) left now h = (record { none = refl; same = refl }, h)
-unrun (BadGrammar name) left now h = (record { none = refl; same = refl }, h)
-unrun ReadFault left now h = record { none = refl; same = refl }
-unrun NoMemory left now h = inl (record { none = refl; same = refl })
-unrun status left now h = absurd h
+pub unrun : (status : Status) (left now : Option (List ℕ)) (refused : List (List ℕ)) → NeverBegan left refused status → RunOutcome status [] (record { left = left; before = now; now = now; refused = refused })
+unrun (NoScript line kind) left now refused h = (record { none = refl; same = refl }, h)
+unrun (BadGrammar name fault) left now refused h = (record { none = refl; same = refl }, h)
+unrun ReadFault left now refused h = record { none = refl; same = refl }
+unrun NoMemory left now refused h = inl (record { none = refl; same = refl })
+unrun status left now refused h = absurd h
 
 -- too many bytes are no script
 long-no-script : (bytes : List ℕ) → SCRIPT_BYTES < length bytes → script_of bytes ≡ Err (0, TooLong)

@@ -10,16 +10,16 @@ ghost use Rattle.od_serve.specs.Running.Went.{WentFar};
 
 use crate::run::run_client;
 use od_desk::desk::{Desk, Stop};
-use od_io::{Failed, Sink};
+use od_io::{Failed, Runner, Sink};
 use od_order::script::Order;
 use od_text::list::List;
 use std::alloc::Global;
 
 /// Follows a client's orders as far as there is memory, and gives whether that is to their end. Only a write that failed ends
 /// the others too.
-fn run_as_far<W: Sink>(
+fn run_as_far<W: Sink, R: Runner + Drop>(
     alloc: Global,
-    desk: &mut Desk<W>,
+    desk: &mut Desk<W, R>,
     caller: u32,
     orders: List<Order>,
 ) -> Result<bool, Failed>
@@ -38,9 +38,9 @@ fn run_as_far<W: Sink>(
 
 /// Follows each client's orders, the first client being caller 1, and gives whether all were followed to their end. A client for
 /// which memory is refused ends there, and the others go on; after a write that failed nobody does.
-pub fn run_clients<W: Sink>(
+pub fn run_clients<W: Sink, R: Runner + Drop>(
     alloc: Global,
-    desk: &mut Desk<W>,
+    desk: &mut Desk<W, R>,
     clients: List<List<Order>>,
 ) -> Result<bool, Failed>
     requires whole { desk.old.cut ≡ false }

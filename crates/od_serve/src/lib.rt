@@ -2,12 +2,7 @@
 #![tactic(auto)]
 
 mod clients;
-#[cfg(test)]
-mod examples;
 mod run;
 mod serve;
-#[cfg(test)]
-mod tests;
-mod warn;
 
 pub use serve::{Ended, is_serve, odinson};

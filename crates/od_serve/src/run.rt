@@ -9,16 +9,16 @@ ghost use Rattle.od_serve.specs.Running.Went.{Went, IsNextCall};
 
 use od_command::history::Command;
 use od_desk::desk::{Desk, Stop};
-use od_io::Sink;
+use od_io::{Runner, Sink};
 use od_order::script::Order;
 use od_text::list::List;
 use od_text::text::{Copied, Text};
 use std::alloc::Global;
 
 /// Steps a session until a reply that ends the run. Gives the number of the caller's next call.
-fn run_steps<W: Sink>(
+fn run_steps<W: Sink, R: Runner + Drop>(
     alloc: Global,
-    desk: &mut Desk<W>,
+    desk: &mut Desk<W, R>,
     caller: u32,
     call: u32,
     name: &Text,
@@ -43,9 +43,9 @@ fn run_steps<W: Sink>(
 }
 
 /// Follows one order. Gives the number of the caller's next call.
-fn follow<W: Sink>(
+fn follow<W: Sink, R: Runner + Drop>(
     alloc: Global,
-    desk: &mut Desk<W>,
+    desk: &mut Desk<W, R>,
     caller: u32,
     call: u32,
     order: Order,
@@ -67,9 +67,9 @@ fn follow<W: Sink>(
 }
 
 /// Follows a client's orders to their end, or until one cannot be answered.
-pub fn run_client<W: Sink>(
+pub fn run_client<W: Sink, R: Runner + Drop>(
     alloc: Global,
-    desk: &mut Desk<W>,
+    desk: &mut Desk<W, R>,
     caller: u32,
     orders: List<Order>,
 ) -> Result<(), Stop>

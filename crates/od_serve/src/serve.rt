@@ -1,28 +1,28 @@
 //! The top call: words, a source and two sinks in, a status and the history out.
-ghost use Rattle.std.specs.Prelude.{◌≡◌, ◌↔◌, ◌⊎◌, true, false, None, ◌≤◌, [], map, string_bytes, option_map, Option, List as Seq, ℕ, IfOk, IfErr};
+ghost use Rattle.std.specs.Prelude.{◌≡◌, ◌↔◌, ◌⊎◌, true, false, ◌≤◌, [], map, string_bytes, Option, List as Seq, ℕ, IfOk, IfErr, OnOk};
 ghost use Rattle.std.specs.Io.KnownBytes.{IsAtEnd};
 ghost use Rattle.od_io.specs.Streams.Count.{Rose};
-ghost use Rattle.od_pattern.specs.declared.grammar.Head.{Head as SpecHead};
-ghost use Rattle.od_session.specs.Parts.{first_refused};
+ghost use Rattle.od_session.specs.Grammars.{AreRead};
 ghost use Rattle.od_order.specs.Laws.{IsFew};
 ghost use Rattle.od_model.specs.Run.Clients.{has_refusal};
 ghost use Rattle.od_model.specs.Run.Ends.{Answered, CanEndSo, HasStatus};
 ghost use Rattle.od_model.specs.Run.Outcome.{IsScriptOf};
 ghost use Rattle.od_model.specs.Run.Words.{is_serve};
 ghost use Rattle.od_serve.specs.Running.Ends.{RunOutcome, NeverBegan, Ran, run_status, Ends};
+ghost use Rattle.od_heads.specs.Faults.{refused_since};
+ghost use Rattle.od_serve.specs.Running.Ready.{script_in};
 
 use crate::clients::run_clients;
-use crate::warn::{exit_status, warn};
 use od_command::history::{Entry, Reply};
 use od_desk::desk::Desk;
-use od_io::{Failed, ReadAll, Sink, Source, read_all};
+use od_diagnostic::{exit_status, warn};
+use od_heads::{Heads, HeadsFault, make_heads};
+use od_io::{Failed, PatternMaker, ReadAll, Runner, Sink, Source, read_all};
 use od_model::status::Status;
-use od_order::script::{SCRIPT_BYTES, Script};
+use od_order::script::{Order, SCRIPT_BYTES, Script};
 use od_order::script_kind::ScriptKind;
-use od_pattern::grammar::Head;
 use od_script::{ScriptFault, read_script};
-use od_text::text::{Copied, NoMemory, Text};
-use od_workspace::workspace::heads::{Heads, first_refused};
+use od_text::list::List;
 use std::alloc::Global;
 
 #[cfg(test)]
@@ -30,7 +30,7 @@ mod tests;
 
 /// How the top call ended.
 #[derive(Drop)]
-pub struct Ended<S, W, E> {
+pub struct Ended<S, W, E, M> {
     /// The exit status: 0 where every command was answered and none refused, 1 where some were refused, 2 for other words
     /// than the program's, 3 where the input is no script, 4 where one of its grammars is not accepted, 7 where a read failed,
     /// 8 where a write did, 9 where memory was refused.
@@ -43,6 +43,8 @@ pub struct Ended<S, W, E> {
     pub sink: W,
     /// The diagnostic sink, with the status's line from 2 on.
     pub diag: E,
+    /// The maker of regular expressions, with those that it refused.
+    pub maker: M,
 }
 
 /// How a run ended: its status, the answered commands, and the sink.
@@ -51,6 +53,13 @@ struct Run<W> {
     status: Status,
     history: Vec<Entry>,
     sink: W,
+}
+
+/// A script whose grammars are made ready.
+#[derive(Drop)]
+struct Ready<R: Runner> {
+    heads: Heads<R>,
+    clients: List<List<Order>>,
 }
 
 /// Whether the words are those of `serve`.
@@ -90,25 +99,22 @@ fn run_status(followed: Result<bool, Failed>, history: &[Entry]) -> Status
 }
 
 /// Runs a script's clients one after another, over no document and no session.
-fn run_script<W: Sink>(alloc: Global, script: Script, sink: W) -> Run<W>
-    requires few { IsFew script }
-    requires accepted { first_refused script.heads ≡ None }
-    ensures outcome { (left : Option (Seq ℕ)) → IsScriptOf left script
-        → RunOutcome result.status result.history.items
-        (record { left = left; before = W.written sink; now = W.written result.sink }) }
+fn run_script<W: Sink, R: Runner + Drop>(alloc: Global, ready: Ready<R>, sink: W) -> Run<W>
+    requires few { IsFew (script_in ready) }
+    requires read { AreRead ready.heads }
+    ensures outcome { (left : Option (Seq ℕ)) (refused : Seq (Seq ℕ)) → IsScriptOf left (script_in ready)
+        → RunOutcome result.status result.history.items (record {
+          left = left;
+          before = W.written sink;
+          now = W.written result.sink;
+          refused = refused;
+        }) }
     ensures ran { Ran result.status }
     ensures write { result.status ≡ Status.WriteFault → Rose (W.faults sink)
         (W.faults result.sink) }
     ensures later { W.faults sink ≤ W.faults result.sink }
 {
-    let Script { heads, clients } = script;
-    let Ok(heads) = Heads::new(alloc, heads) else {
-        return Run {
-            status: Status::NoMemory,
-            history: Vec::new(alloc),
-            sink,
-        };
-    };
+    let Ready { heads, clients } = ready;
     let mut desk = Desk::new(alloc, heads, sink);
     let followed = run_clients(alloc, &mut desk, clients);
     let (history, sink) = desk.close();
@@ -119,38 +125,44 @@ fn run_script<W: Sink>(alloc: Global, script: Script, sink: W) -> Run<W>
     }
 }
 
-/// The name of the first grammar that is not accepted, if there is one.
-fn refused_name(alloc: Global, heads: &[Head]) -> Result<Option<Text>, NoMemory>
-    ensures { IfOk result (λ name. name ≡ option_map (λ (head : SpecHead). head.name)
-        (first_refused heads.now)) }
-{
-    match first_refused(heads) {
-        None => Ok(None),
-        Some(head) => Ok(Some(head.name.copy(alloc)?)),
-    }
-}
-
-/// The script, where all of its grammars are accepted.
-fn accept(alloc: Global, script: Script) -> Result<Script, Status>
-    ensures accepted { IfOk result (λ same. (same ≡ script) × (first_refused script.heads ≡ None)) }
+/// Makes the grammars of a script ready.
+fn make_ready<M: PatternMaker>(
+    alloc: Global,
+    script: Script,
+    maker: &mut M,
+) -> Result<Ready<M::Runner>, Status>
+where
+    M::Runner: Drop,
+    ensures script { IfOk result (λ ready. script_in ready ≡ script) }
+    ensures read { IfOk result (λ ready. AreRead ready.heads) }
     ensures refused { (left : Option (Seq ℕ)) → IsScriptOf left script
-        → IfErr result (NeverBegan left) }
+        → IfErr result (NeverBegan left (refused_since (M.refused maker.old) (M.refused maker.new))) }
+    ensures none_refused { OnOk result (M.refused maker.new ≡ M.refused maker.old) }
     ensures not_read { IfErr result (λ status. status ≡ Status.ReadFault → ⊥) }
 {
-    match refused_name(alloc, script.heads.get()) {
-        Ok(None) => Ok(script),
-        Ok(Some(name)) => Err(Status::BadGrammar { name }),
-        Err(_) => Err(Status::NoMemory),
+    let Script { heads, clients } = script;
+    match make_heads(alloc, heads, maker) {
+        Ok(heads) => Ok(Ready { heads, clients }),
+        Err(HeadsFault::Refused { name, fault }) => Err(Status::BadGrammar { name, fault }),
+        Err(HeadsFault::NoMemory) => Err(Status::NoMemory),
     }
 }
 
-/// Reads the source to its end, and the script in its bytes, which are given back.
-fn read_source<S: Source>(alloc: Global, source: &mut S) -> Result<Script, Status>
-    ensures script { IfOk result (IsScriptOf (S.left source.old)) }
-    ensures few { IfOk result IsFew }
-    ensures accepted { IfOk result (λ script. first_refused script.heads ≡ None) }
+/// Reads the source to its end, and the script in its bytes, which are given back, and makes its grammars ready.
+fn read_source<S: Source, M: PatternMaker>(
+    alloc: Global,
+    source: &mut S,
+    maker: &mut M,
+) -> Result<Ready<M::Runner>, Status>
+where
+    M::Runner: Drop,
+    ensures script { IfOk result (λ ready. IsScriptOf (S.left source.old) (script_in ready)) }
+    ensures few { IfOk result (λ ready. IsFew (script_in ready)) }
+    ensures accepted { IfOk result (λ ready. AreRead ready.heads) }
+    ensures none_refused { OnOk result (M.refused maker.new ≡ M.refused maker.old) }
     ensures end { IfOk result (λ _. IsAtEnd (S.left source.new)) }
-    ensures fault { IfErr result (NeverBegan (S.left source.old)) }
+    ensures fault { IfErr result (NeverBegan (S.left source.old)
+        (refused_since (M.refused maker.old) (M.refused maker.new))) }
     ensures read { IfErr result (λ status. status ≡ Status.ReadFault
         → Rose (S.faults source.old) (S.faults source.new)) }
     ensures later { S.faults source.old ≤ S.faults source.new }
@@ -167,16 +179,27 @@ fn read_source<S: Source>(alloc: Global, source: &mut S) -> Result<Script, Statu
         Err(ReadAll::NoMemory) => return Err(Status::NoMemory),
     };
     match read_script(alloc, bytes.get()) {
-        Ok(script) => accept(alloc, script),
+        Ok(script) => make_ready(alloc, script, maker),
         Err(ScriptFault::Bad { line, kind }) => Err(Status::NoScript { line, kind }),
         Err(ScriptFault::NoMemory) => Err(Status::NoMemory),
     }
 }
 
 /// Reads the source to its end, and the script in its bytes, and runs it.
-fn serve<S: Source, W: Sink>(alloc: Global, source: &mut S, sink: W) -> Run<W>
-    ensures outcome { RunOutcome result.status result.history.items
-        (record { left = S.left source.old; before = W.written sink; now = W.written result.sink }) }
+fn serve<S: Source, W: Sink, M: PatternMaker>(
+    alloc: Global,
+    source: &mut S,
+    sink: W,
+    maker: &mut M,
+) -> Run<W>
+where
+    M::Runner: Drop,
+    ensures outcome { RunOutcome result.status result.history.items (record {
+      left = S.left source.old;
+      before = W.written sink;
+      now = W.written result.sink;
+      refused = refused_since (M.refused maker.old) (M.refused maker.new);
+    }) }
     ensures not_usage { result.status ≡ Status.Usage → ⊥ }
     ensures end { Answered result.status → IsAtEnd (S.left source.new) }
     ensures read { result.status ≡ Status.ReadFault → Rose (S.faults source.old)
@@ -185,12 +208,14 @@ fn serve<S: Source, W: Sink>(alloc: Global, source: &mut S, sink: W) -> Run<W>
         (W.faults result.sink) }
     ensures complete { (Rose (S.faults source.old) (S.faults source.new) → ⊥)
         → (Rose (W.faults sink) (W.faults result.sink) → ⊥)
-        → CanEndSo (S.left source.old) result.status }
+        → CanEndSo (S.left source.old)
+        (refused_since (M.refused maker.old) (M.refused maker.new)) result.status }
+    ensures none_refused { Answered result.status → M.refused maker.new ≡ M.refused maker.old }
     ensures source_later { S.faults source.old ≤ S.faults source.new }
     ensures sink_later { W.faults sink ≤ W.faults result.sink }
 {
-    match read_source(alloc, source) {
-        Ok(script) => run_script(alloc, script, sink),
+    match read_source(alloc, source, maker) {
+        Ok(ready) => run_script(alloc, ready, sink),
         Err(status) => Run {
             status,
             history: Vec::new(alloc),
@@ -205,14 +230,17 @@ fn serve<S: Source, W: Sink>(alloc: Global, source: &mut S, sink: W) -> Run<W>
 /// The history that comes back is one legal history of the script from no document and no session: each reply is what the
 /// one-thread object answers there, each client's entries are its commands once and in order, the bytes that the sink took are
 /// its lines, and each print shows the mentions that the rounds find in the documents that were committed when its session was
-/// opened.
-pub fn odinson<S: Source, W: Sink, E: Sink>(
+/// opened. The maker makes the regular expressions of the grammars.
+pub fn odinson<S: Source, W: Sink, E: Sink, M: PatternMaker>(
     alloc: Global,
     words: &[String],
     source: S,
     sink: W,
     diag: E,
-) -> Ended<S, W, E>
+    maker: M,
+) -> Ended<S, W, E, M>
+where
+    M::Runner: Drop,
     // One status: what the history and the sink are then, its line on `diag`, and that the call may end so.
     ensures ends { HasStatus result.status (λ status. Ends status result.history.items (record {
       served = is_serve (map string_bytes words.now);
@@ -227,6 +255,7 @@ pub fn odinson<S: Source, W: Sink, E: Sink>(
       line_now = E.written result.diag;
       line_faults = E.faults diag;
       line_faults_now = E.faults result.diag;
+      refused = refused_since (M.refused maker) (M.refused result.maker);
     })) }
 
     // Usage exactly where the words are not those of the program; then nothing is read and nothing answered.
@@ -243,15 +272,20 @@ pub fn odinson<S: Source, W: Sink, E: Sink>(
     // Where every command was answered, nothing is said on `diag`, and the source was read to its end.
     ensures quiet { (result.status ≡ 0) ⊎ (result.status ≡ 1) → result.diag ≡ diag }
     ensures end { (result.status ≡ 0) ⊎ (result.status ≡ 1) → IsAtEnd (S.left result.source) }
+
+    // And no regular expression was refused.
+    ensures made { (result.status ≡ 0) ⊎ (result.status ≡ 1)
+        → M.refused result.maker ≡ M.refused maker }
 {
     let mut source = source;
     let mut diag = diag;
+    let mut maker = maker;
     let Run {
         status,
         history,
         sink,
     } = if is_serve(words) {
-        serve(alloc, &mut source, sink)
+        serve(alloc, &mut source, sink, &mut maker)
     } else {
         Run {
             status: Status::Usage,
@@ -266,5 +300,6 @@ pub fn odinson<S: Source, W: Sink, E: Sink>(
         source,
         sink,
         diag,
+        maker,
     }
 }

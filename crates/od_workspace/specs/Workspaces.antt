@@ -1,5 +1,4 @@
 pub mod Changes
-pub mod Heads
 pub mod Kept
 pub mod Sessions
 pub mod Steps

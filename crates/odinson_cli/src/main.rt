@@ -1,7 +1,7 @@
 //! The program: hands its words and the standard streams to the server, and ends with the server's status.
 #![tactic(auto)]
 
-use od_io::{StdSink, StdSource, write_whole};
+use od_io::{RegexMaker, StdSink, StdSource, write_whole};
 use od_serve::odinson;
 use std::process::ExitCode;
 use std::{env, io};
@@ -28,6 +28,7 @@ fn main(rt: HostRuntime) -> ExitCode {
     };
     let source = StdSource::new(rt.stdin());
     let sink = StdSink::output(rt.stdout());
-    let ended = odinson(rt.alloc(), words.as_slice(), source, sink, diag);
+    let maker = RegexMaker::new(rt.alloc());
+    let ended = odinson(rt.alloc(), words.as_slice(), source, sink, diag, maker);
     ExitCode::from(ended.status)
 }

@@ -11,7 +11,7 @@ use Rattle.od_extraction.specs.declared.mention.RoundResult.TheVariants.{Found, 
 use Rattle.od_extraction.specs.declared.phase.Phase.TheVariants.{Finished}
 use Rattle.od_extraction.specs.Joined.{joined}
 use Rattle.od_extraction.specs.Spans.{LiesIn}
-use Rattle.od_language.specs.Query.{grammar_of}
+use Rattle.od_session.specs.Grammars.{grammar_of}
 use Rattle.od_matching.specs.Rounds.Round.{round, rounds, one_more, with_found}
 use Rattle.od_matching.specs.Rounds.Phases.{phase, greatest_first}
 use Rattle.od_command.specs.declared.history.Entry.{Entry}

@@ -16,7 +16,7 @@ use Rattle.od_command.specs.declared.history.Reply.TheVariants.{Added, Opened, S
 use Rattle.od_command.specs.declared.history.Entry.{Entry}
 use Rattle.od_session.specs.declared.object.SessionState.{SessionState}
 use Rattle.od_session.specs.declared.object.OneThread.{OneThread}
-use Rattle.od_language.specs.Query.{grammar_of}
+use Rattle.od_session.specs.Grammars.{grammar_of}
 use Rattle.od_document.specs.Building.{document_of}
 use Rattle.od_text.specs.Lists.{Each, points_after}
 use Rattle.od_matching.specs.Rounds.Round.{round, rounds, one_more, with_found}

@@ -12,7 +12,7 @@ use Rattle.od_command.specs.declared.history.Reply.TheVariants.{Opened, Printed}
 use Rattle.od_command.specs.declared.history.Entry.{Entry}
 use Rattle.od_session.specs.declared.object.SessionState.{SessionState}
 use Rattle.od_session.specs.declared.object.OneThread.{OneThread}
-use Rattle.od_language.specs.Query.{grammar_of}
+use Rattle.od_session.specs.Grammars.{grammar_of}
 use Rattle.od_text.specs.Lists.{Each, EachPoint}
 use Rattle.od_extraction.specs.Spans.{LiesIn}
 use Rattle.od_matching.specs.Rounds.Round.{rounds}

@@ -6,7 +6,7 @@ use Rattle.od_extraction.specs.declared.phase.Phase.TheVariants.{Finished}
 use Rattle.od_session.specs.declared.object.SessionState.{SessionState}
 use Rattle.od_session.specs.declared.object.OneThread.{OneThread}
 use Rattle.od_session.specs.declared.object.TheConstants.{SESSION_ROUNDS}
-use Rattle.od_language.specs.Query.{grammar_of}
+use Rattle.od_session.specs.Grammars.{grammar_of}
 use Rattle.od_text.specs.Lists.{Each, EachPoint}
 use Rattle.od_matching.specs.Rounds.Round.{rounds}
 use Rattle.od_matching.specs.Rounds.Phases.{phase, greatest_first}

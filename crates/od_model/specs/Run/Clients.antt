@@ -8,7 +8,7 @@ use Rattle.od_order.specs.declared.script.Order.{Order}
 use Rattle.od_order.specs.declared.script.Script.{Script}
 use Rattle.od_session.specs.declared.object.OneThread.{OneThread}
 use Rattle.od_text.specs.Lists.{Each}
-use Rattle.od_session.specs.Parts.{IsAccepted}
+use Rattle.od_session.specs.Grammars.{AreRead}
 use Rattle.od_model.specs.Object.Sound.{IsSound}
 use Rattle.od_model.specs.History.Legal.{Legal, mine}
 use Rattle.od_model.specs.History.Orders.{Begins}
@@ -23,10 +23,10 @@ EachClient Unfolds clients history =
 abbrev pub OfClients : List (List Order) → List Entry → Type 0
 OfClients clients history = Each (λ e. (1 ≤ e.caller) × (e.caller ≤ length clients)) history
 
--- one legal history of the script, whose grammars are accepted: a beginning of each client's orders, once and in order,
+-- one legal history of the script, whose texts are grammars with room for their expressions: a beginning of each client's orders, once and in order,
 -- whose prints show the rounds where the start is sound
 pub record IsHistoryOf (start : OneThread) (script : Script) (history : List Entry) : Type 0 where
-  pub accepted : Each IsAccepted script.heads
+  pub read : AreRead script.heads
   pub legal : Legal start script.heads history
   pub callers : OfClients script.clients history
   pub begins : EachClient Begins script.clients history

@@ -11,22 +11,23 @@ Answered Done = Unit {0}
 Answered Refused = Unit {0}
 Answered Usage = ⊥
 Answered (NoScript line kind) = ⊥
-Answered (BadGrammar name) = ⊥
+Answered (BadGrammar name fault) = ⊥
 Answered ReadFault = ⊥
 Answered WriteFault = ⊥
 Answered NoMemory = ⊥
 
--- how it may end where no read and no write failed, for the bytes that the source had: every command was answered,
--- the bytes are no script, and this is their first fault, one of its grammars is not accepted, or memory was refused
-abbrev pub CanEndSo : Option (List ℕ) → Status → Type 0
-CanEndSo left Done = Unit {0}
-CanEndSo left Refused = Unit {0}
-CanEndSo left Usage = ⊥
-CanEndSo left (NoScript line kind) = IsNoScript left line kind
-CanEndSo left (BadGrammar name) = HasBadGrammar name left
-CanEndSo left ReadFault = ⊥
-CanEndSo left WriteFault = ⊥
-CanEndSo left NoMemory = Unit {0}
+-- how it may end where no read and no write failed, for the bytes that the source had and what the maker refused: every
+-- command was answered, the bytes are no script, and this is their first fault, one of its grammars is not accepted, or memory
+-- was refused
+abbrev pub CanEndSo : Option (List ℕ) → List (List ℕ) → Status → Type 0
+CanEndSo left refused Done = Unit {0}
+CanEndSo left refused Refused = Unit {0}
+CanEndSo left refused Usage = ⊥
+CanEndSo left refused (NoScript line kind) = IsNoScript left line kind
+CanEndSo left refused (BadGrammar name fault) = HasBadGrammar name fault left refused
+CanEndSo left refused ReadFault = ⊥
+CanEndSo left refused WriteFault = ⊥
+CanEndSo left refused NoMemory = Unit {0}
 
 -- the exit status is that of a way to end of which P holds
 abbrev pub HasStatus : ℕ → (Status → Type 0) → Type 0

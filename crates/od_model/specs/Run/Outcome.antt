@@ -3,20 +3,21 @@ use Rattle.std.specs.Prelude.{◌≡◌, ◌⊎◌, ℕ, ◌<◌, List, [], ◌�
 use Rattle.std.specs.Option.{IfSome}
 use Rattle.std.specs.Io.KnownBytes.{Appends}
 use Rattle.od_pattern.specs.declared.grammar.Head.{Head}
+use Rattle.od_rule_text.specs.declared.grammar_fault.GrammarFault.{GrammarFault}
 use Rattle.od_command.specs.declared.history.Entry.{Entry}
 use Rattle.od_order.specs.declared.script.Script.{Script}
 use Rattle.od_order.specs.declared.script_kind.ScriptKind.{ScriptKind}
 use Rattle.od_session.specs.declared.object.OneThread.{OneThread}
 use Rattle.od_model.specs.declared.status.Status.{Status}
 use Rattle.od_model.specs.declared.status.Status.TheVariants.{Done, Refused, Usage, NoScript, BadGrammar, ReadFault, WriteFault, NoMemory}
-use Rattle.od_session.specs.Parts.{first_refused}
+use Rattle.od_session.specs.Grammars.{IsFirstRefused}
 use Rattle.od_model.specs.History.Legal.{state_after}
 use Rattle.od_model.specs.History.Lines.{entry_lines, Lines}
 use Rattle.od_model.specs.History.Orders.{Follows}
 use Rattle.od_order.specs.Scripts.{script_of}
 use Rattle.od_model.specs.Run.Clients.{EachClient, IsHistoryOf, has_refusal}
 
--- the bytes outside a run, where they are told
+-- what is outside a run: bytes, where they are told, and what was refused
 pub record Outside : Type 0 where
   -- those that the source had left before the run
   pub left : Option (List ℕ)
@@ -24,6 +25,8 @@ pub record Outside : Type 0 where
   pub before : Option (List ℕ)
   -- those that the sink has taken after it
   pub now : Option (List ℕ)
+  -- the regular expressions that the maker refused in it
+  pub refused : List (List ℕ)
 
 -- ## The script
 
@@ -37,12 +40,13 @@ pub record IsScriptOf (left : Option (List ℕ)) (script : Script) : Type 0 wher
 abbrev pub IsNoScript : Option (List ℕ) → ℕ → ScriptKind → Type 0
 IsNoScript left line kind = IfSome left (λ known. script_of known ≡ Err (line, kind))
 
--- the bytes that a source had are a script, and the first of its grammars that is not accepted has this name
-pub record HasBadGrammar (name : List ℕ) (left : Option (List ℕ)) : Type 0 where
+-- the bytes that a source had are a script, and the first of its heads whose grammar cannot be made, where a maker refused
+-- these expressions, has this name and this fault
+pub record HasBadGrammar (name : List ℕ) (fault : GrammarFault) (left : Option (List ℕ)) (refused : List (List ℕ)) : Type 0 where
   pub script : Script
   pub is : IsScriptOf left script
   pub head : Head
-  pub first : first_refused script.heads ≡ Some head
+  pub first : IsFirstRefused refused script.heads head fault
   pub name_is : name ≡ head.name
 
 -- ## The lines
@@ -98,7 +102,7 @@ Outcome start Done history outside = IsAnswered false start history outside
 Outcome start Refused history outside = IsAnswered true start history outside
 Outcome start Usage history outside = DidNothing history outside
 Outcome start (NoScript line kind) history outside = DidNothing history outside × IsNoScript outside.left line kind
-Outcome start (BadGrammar name) history outside = DidNothing history outside × HasBadGrammar name outside.left
+Outcome start (BadGrammar name fault) history outside = DidNothing history outside × HasBadGrammar name fault outside.left outside.refused
 Outcome start ReadFault history outside = DidNothing history outside
 Outcome start WriteFault history outside = IsCutOff start history outside
 Outcome start NoMemory history outside = DidNothing history outside ⊎ IsLeftOff start history outside

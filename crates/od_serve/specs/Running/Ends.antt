@@ -15,16 +15,16 @@ use Rattle.od_model.specs.Run.Words.{diagnostic}
 abbrev pub RunOutcome : Status → List Entry → Outside → Type 0
 RunOutcome status history outside = Outcome nothing status history outside
 
--- why a run never began, for the bytes that the source had
-abbrev pub NeverBegan : Option (List ℕ) → Status → Type 0
-NeverBegan left Done = ⊥
-NeverBegan left Refused = ⊥
-NeverBegan left Usage = ⊥
-NeverBegan left (NoScript line kind) = IsNoScript left line kind
-NeverBegan left (BadGrammar name) = HasBadGrammar name left
-NeverBegan left ReadFault = Unit {0}
-NeverBegan left WriteFault = ⊥
-NeverBegan left NoMemory = Unit {0}
+-- why a run never began, for the bytes that the source had and the expressions that the maker refused
+abbrev pub NeverBegan : Option (List ℕ) → List (List ℕ) → Status → Type 0
+NeverBegan left refused Done = ⊥
+NeverBegan left refused Refused = ⊥
+NeverBegan left refused Usage = ⊥
+NeverBegan left refused (NoScript line kind) = IsNoScript left line kind
+NeverBegan left refused (BadGrammar name fault) = HasBadGrammar name fault left refused
+NeverBegan left refused ReadFault = Unit {0}
+NeverBegan left refused WriteFault = ⊥
+NeverBegan left refused NoMemory = Unit {0}
 
 -- the status of a run whose clients were followed to their end, or not, or whose sink failed
 abbrev pub run_status : Result Bool Failed → Bool → Status
@@ -54,9 +54,11 @@ pub record Around : Type 0 where
   pub line_now : Option (List ℕ)
   pub line_faults : ℕ
   pub line_faults_now : ℕ
+  -- the regular expressions that the maker refused
+  pub refused : List (List ℕ)
 
 abbrev pub outside_of : Around → Outside
-outside_of around = record { left = around.left; before = around.before; now = around.now }
+outside_of around = record { left = around.left; before = around.before; now = around.now; refused = around.refused }
 
 -- all that is said of the status of a call
 pub record Ends (status : Status) (history : List Entry) (around : Around) : Type 0 where
@@ -66,4 +68,4 @@ pub record Ends (status : Status) (history : List Entry) (around : Around) : Typ
   pub line : AppendsUpToFault around.line_faults around.line_faults_now around.line_before around.line_now (diagnostic status)
   -- with the word `serve`, and where no read and no write failed, it may end so
   pub complete : around.served ≡ true → (Rose around.read_faults around.read_faults_now → ⊥)
-      → (Rose around.write_faults around.write_faults_now → ⊥) → CanEndSo around.left status
+      → (Rose around.write_faults around.write_faults_now → ⊥) → CanEndSo around.left around.refused status

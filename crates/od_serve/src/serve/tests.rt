@@ -1,11 +1,16 @@
 //! The top call over sources and sinks in memory.
 use super::{Ended, odinson};
-use od_io::{MemSink, MemSource};
-use od_text::text::{Bytes, NoMemory};
+use od_command::history::{Command, Refusal, Reply};
+use od_heads::make_heads;
+use od_io::{MemSink, MemSource, RegexMaker};
+use od_text::list::List;
+use od_text::text::{Bytes, NoMemory, Text};
+use od_workspace::workspace::Workspace;
+use od_workspace::workspace::change::Answer;
 use std::alloc::{AllocError, Global};
 use std::test::Fail;
 
-type Ends = Ended<MemSource, MemSink, MemSink>;
+type Ends = Ended<MemSource, MemSink, MemSink, RegexMaker>;
 
 const EXAMPLE: &[u8] =
     b"query q dogs bark\nclient\ndoc d1 7\n1\tBig\tbig\tADJ\tJJ\t_\t2\tamod\t_\t_\n2\tDogs\tdog\tNOUN\tNNS\t_\t3\tnsubj\t_\t_\n3\tbark\tbark\tVERB\tVBP\t_\t0\troot\t_\t_\n\n1\tCats\tcat\tNOUN\tNNS\t_\t2\tnsubj\t_\t_\n2\tsleep\tsleep\tVERB\tVBP\t_\t0\troot\t_\t_\n\nopen s q 5\nrun s\nprint s\n";
@@ -57,17 +62,8 @@ fn run(alloc: Global, given: &Given) -> Result<Ends, NoMemory> {
     let source = MemSource::new(bytes, failing);
     let sink = MemSink::new(alloc, given.room)?;
     let diag = MemSink::new(alloc, given.diag_room)?;
-    Ok(odinson(alloc, given.words.as_slice(), source, sink, diag))
-}
-
-#[test]
-fn the_first_example_writes_its_six_lines(rt: HostRuntime) {
-    let given = serving(rt.alloc(), EXAMPLE).expect(&rt, "memory");
-    let ended = run(rt.alloc(), &given).expect(&rt, "memory");
-    assert_eq!(rt; ended.status, 0);
-    assert!(rt; ended.sink.written() == LINES);
-    assert_eq!(rt; ended.history.len(), 5);
-    assert!(rt; ended.diag.written().is_empty());
+    let maker = RegexMaker::new(alloc);
+    Ok(odinson(alloc, given.words.as_slice(), source, sink, diag, maker))
 }
 
 #[test]
@@ -84,17 +80,6 @@ fn other_words_are_refused(rt: HostRuntime) {
 }
 
 #[test]
-fn a_sink_of_two_lines_and_more_takes_a_part_of_the_third(rt: HostRuntime) {
-    let mut given = serving(rt.alloc(), EXAMPLE).expect(&rt, "memory");
-    given.room = 164;
-    let ended = run(rt.alloc(), &given).expect(&rt, "memory");
-    assert_eq!(rt; ended.status, 8);
-    assert_eq!(rt; ended.history.len(), 3);
-    assert!(rt; ended.sink.written() == &LINES[..164]);
-    assert!(rt; ended.diag.written() == WRITE_FAULT);
-}
-
-#[test]
 fn a_sink_takes_what_it_has_room_for(rt: HostRuntime) {
     let mut given = serving(rt.alloc(), EXAMPLE).expect(&rt, "memory");
     for room in 0..LINES.len() {
@@ -102,6 +87,7 @@ fn a_sink_takes_what_it_has_room_for(rt: HostRuntime) {
         let ended = run(rt.alloc(), &given).expect(&rt, "memory");
         assert_eq!(rt; ended.status, 8);
         assert!(rt; ended.sink.written() == &LINES[..room]);
+        assert!(rt; ended.diag.written() == WRITE_FAULT);
     }
 }
 
@@ -128,12 +114,12 @@ fn a_diagnostic_that_cannot_be_written_changes_no_status(rt: HostRuntime) {
 
 /// A run of `serve` over a script, with ample room.
 fn served(alloc: Global, script: &[u8]) -> Result<Ends, NoMemory> {
-    let mut words = Vec::new(alloc);
-    words.push(String::from_str(alloc, "serve")?)?;
+    let words = words_of(alloc, &["serve"])?;
     let source = MemSource::new(Bytes::from_slice(alloc, script)?, Vec::new(alloc));
-    let sink = MemSink::new(alloc, 10000)?;
+    let sink = MemSink::new(alloc, 100000)?;
     let diag = MemSink::new(alloc, 1000)?;
-    Ok(odinson(alloc, words.as_slice(), source, sink, diag))
+    let maker = RegexMaker::new(alloc);
+    Ok(odinson(alloc, words.as_slice(), source, sink, diag, maker))
 }
 
 /// A script, its exit status, what is written of its answers, and its diagnostic.
@@ -145,63 +131,14 @@ struct Case {
     said: &'static [u8],
 }
 
-/// A script that is refused.
-fn faulty(script: &'static [u8], said: &'static [u8]) -> Case {
+/// A script that ends with this status before anything is answered.
+fn faulty(status: u8, script: &'static [u8], said: &'static [u8]) -> Case {
     Case {
         script,
-        status: 3,
+        status,
         lines: b"",
         said,
     }
-}
-
-/// Each of these scripts has two faults.
-#[test]
-fn the_first_fault_of_a_script_is_told(rt: HostRuntime) -> Result<(), Fail> {
-    let cases = [
-        faulty(b"client\n#\xff\nx\n", b"odinson: script line 2: NotUtf8\n"),
-        faulty(
-            b"grammar g 2\na\n\xff\nx\n",
-            b"odinson: script line 3: NotUtf8\n",
-        ),
-        faulty(b"Client\nstep\n", b"odinson: script line 1: BadWord\n"),
-        faulty(
-            b"client\nquery q\nx\n",
-            b"odinson: script line 2: LateHead\n",
-        ),
-        faulty(
-            b"query q a\ndoc d1 7\nx\n",
-            b"odinson: script line 2: NoClient\n",
-        ),
-        faulty(b"query q\nx\n", b"odinson: script line 1: Shape\n"),
-        faulty(
-            b"client\nopen s ? x\nx\n",
-            b"odinson: script line 2: BadName\n",
-        ),
-        faulty(
-            b"client\ndoc d 01\nx\n",
-            b"odinson: script line 2: BadNumber\n",
-        ),
-        faulty(
-            b"query q a\ngrammar q 9\nx\n",
-            b"odinson: script line 2: SameHead\n",
-        ),
-        faulty(
-            b"grammar g 3\na\n\xff\n",
-            b"odinson: script line 1: ShortBlock\n",
-        ),
-        faulty(
-            b"client\nclient\nclient\nclient\nclient\nclient\nclient\nclient\nclient\nx\n",
-            b"odinson: script line 9: TooMany\n",
-        ),
-    ];
-    for case in &cases {
-        let ended = served(rt.alloc(), case.script)?;
-        assert_eq!(rt; ended.status, case.status);
-        assert!(rt; ended.history.is_empty());
-        assert!(rt; ended.diag.written() == case.said);
-    }
-    Ok(())
 }
 
 /// A script of one unknown word, which has one byte more than 64 MiB.
@@ -214,7 +151,7 @@ fn a_script_of_more_than_64_mebibytes_is_too_long(rt: HostRuntime) -> Result<(),
     Ok(())
 }
 
-/// Scripts that are run, and one whose second grammar is not accepted.
+/// Scripts that are run, and scripts that are refused.
 #[test]
 fn scripts_are_answered(rt: HostRuntime) -> Result<(), Fail> {
     let cases = [
@@ -253,13 +190,78 @@ fn scripts_are_answered(rt: HostRuntime) -> Result<(), Fail> {
             lines: b"{\"call\":1,\"caller\":1,\"command\":\"doc\",\"documents\":1,\"name\":\"d\",\"reply\":\"ok\"}\n{\"call\":2,\"caller\":1,\"command\":\"doc\",\"name\":\"d\",\"reply\":\"Duplicate\"}\n{\"call\":3,\"caller\":1,\"command\":\"open\",\"name\":\"s\",\"reply\":\"NoGrammar\"}\n{\"call\":4,\"caller\":1,\"command\":\"open\",\"limit\":0,\"name\":\"s\",\"reply\":\"BadLimit\"}\n{\"call\":5,\"caller\":1,\"command\":\"open\",\"documents\":1,\"limit\":1,\"name\":\"s\",\"reply\":\"ok\"}\n{\"call\":6,\"caller\":1,\"command\":\"open\",\"name\":\"s\",\"reply\":\"Taken\"}\n{\"call\":7,\"caller\":1,\"command\":\"step\",\"name\":\"t\",\"reply\":\"NoSession\"}\n{\"added\":1,\"call\":8,\"caller\":1,\"command\":\"step\",\"name\":\"s\",\"reply\":\"ok\",\"round\":1,\"state\":\"limit\"}\n{\"call\":9,\"caller\":1,\"command\":\"step\",\"name\":\"s\",\"reply\":\"AtLimit\",\"round\":1}\n{\"call\":10,\"caller\":1,\"command\":\"open\",\"documents\":1,\"limit\":5,\"name\":\"u\",\"reply\":\"ok\"}\n{\"added\":1,\"call\":11,\"caller\":1,\"command\":\"step\",\"name\":\"u\",\"reply\":\"ok\",\"round\":1,\"state\":\"going\"}\n{\"added\":0,\"call\":12,\"caller\":1,\"command\":\"step\",\"name\":\"u\",\"reply\":\"ok\",\"round\":2,\"state\":\"finished\"}\n{\"call\":13,\"caller\":1,\"command\":\"step\",\"name\":\"u\",\"reply\":\"Finished\",\"round\":2}\n",
             said: b"",
         },
-        // The second grammar is not accepted, nor is the third.
+        // A query with a regular expression, a path and a named capture.
         Case {
-            script: b"query q a\nquery r [word=a]\ngrammar g 1\nrules:\nclient\nsettle\n",
-            status: 4,
-            lines: b"",
-            said: b"odinson: grammar r: Later\n",
+            script: b"query q [tag=/VB.*/] >nsubj (?<who>[tag=/NNS?/])\nclient\ndoc d 3\n1\tDogs\tdog\tNOUN\tNNS\t_\t2\tnsubj\t_\t_\n2\tbark\tbark\tVERB\tVBP\t_\t0\troot\t_\t_\n3\t.\t.\tPUNCT\t.\t_\t2\tpunct\t_\t_\nopen s q 1\nrun s\nprint s\n",
+            status: 0,
+            lines: b"{\"call\":1,\"caller\":1,\"command\":\"doc\",\"documents\":1,\"name\":\"d\",\"reply\":\"ok\"}\n{\"call\":2,\"caller\":1,\"command\":\"open\",\"documents\":1,\"limit\":1,\"name\":\"s\",\"reply\":\"ok\"}\n{\"added\":1,\"call\":3,\"caller\":1,\"command\":\"step\",\"name\":\"s\",\"reply\":\"ok\",\"round\":1,\"state\":\"limit\"}\n{\"arguments\":[{\"end\":1,\"label\":null,\"name\":\"who\",\"start\":0,\"text\":\"Dogs\"}],\"document\":\"d\",\"end\":1,\"label\":\"Query\",\"rule\":\"query\",\"sentence\":0,\"session\":\"s\",\"start\":0,\"text\":\"Dogs\"}\n{\"call\":4,\"caller\":1,\"command\":\"print\",\"mentions\":1,\"name\":\"s\",\"reply\":\"ok\",\"round\":1,\"state\":\"limit\"}\n",
+            said: b"",
         },
+        // The second grammar is not accepted, nor is the third.
+        faulty(
+            4,
+            b"query q a\nquery r [ward=a]\ngrammar g 1\nrules:\nclient\nsettle\n",
+            b"odinson: grammar r: Pattern rule 1 at 1 kind UnknownField\n",
+        ),
+        faulty(
+            4,
+            b"query q a\nquery r /(/\nclient\n",
+            b"odinson: grammar r: RegexRefused rule 1 number 1\n",
+        ),
+        faulty(
+            4,
+            b"grammar g 1\nrules:\nclient\nsettle\n",
+            b"odinson: grammar g: Yaml line 1 kind NoRules\n",
+        ),
+        // Scripts of which each has two faults, of which the first is told.
+
+        faulty(
+            3,
+            b"client\n#\xff\nx\n",
+            b"odinson: script line 2: NotUtf8\n",
+        ),
+        faulty(
+            3,
+            b"grammar g 2\na\n\xff\nx\n",
+            b"odinson: script line 3: NotUtf8\n",
+        ),
+        faulty(3, b"Client\nstep\n", b"odinson: script line 1: BadWord\n"),
+        faulty(
+            3,
+            b"client\nquery q\nx\n",
+            b"odinson: script line 2: LateHead\n",
+        ),
+        faulty(
+            3,
+            b"query q a\ndoc d1 7\nx\n",
+            b"odinson: script line 2: NoClient\n",
+        ),
+        faulty(3, b"query q\nx\n", b"odinson: script line 1: Shape\n"),
+        faulty(
+            3,
+            b"client\nopen s ? x\nx\n",
+            b"odinson: script line 2: BadName\n",
+        ),
+        faulty(
+            3,
+            b"client\ndoc d 01\nx\n",
+            b"odinson: script line 2: BadNumber\n",
+        ),
+        faulty(
+            3,
+            b"query q a\ngrammar q 9\nx\n",
+            b"odinson: script line 2: SameHead\n",
+        ),
+        faulty(
+            3,
+            b"grammar g 3\na\n\xff\n",
+            b"odinson: script line 1: ShortBlock\n",
+        ),
+        faulty(
+            3,
+            b"client\nclient\nclient\nclient\nclient\nclient\nclient\nclient\nclient\nx\n",
+            b"odinson: script line 9: TooMany\n",
+        ),
     ];
     for case in &cases {
         let ended = served(rt.alloc(), case.script)?;
@@ -270,45 +272,115 @@ fn scripts_are_answered(rt: HostRuntime) -> Result<(), Fail> {
     Ok(())
 }
 
-/// An order for a document of one sentence of so many words.
+/// An order for a document of one sentence of so many words, each of which governs the next.
 fn words_order(alloc: Global, name: &str, count: u32) -> Result<String, AllocError> {
     let mut order = format!(in alloc; "doc {name} {count}\n")?;
     for id in 0..count {
         let number = id as u64 + 1;
-        let line = format!(in alloc; "{number}\tw\t_\t_\t_\t_\t_\t_\t_\t_\n")?;
+        let line = format!(in alloc; "{number}\tw\t_\t_\t_\t_\t{id}\tdep\t_\t_\n")?;
         order.push_str(line.as_str())?;
     }
     Ok(order)
 }
 
-#[test]
-fn a_sentence_has_at_most_2000_words(rt: HostRuntime) -> Result<(), Fail> {
-    let alloc = rt.alloc();
-    let mut script = String::from_str(alloc, "client\n")?;
-    script.push_str(words_order(alloc, "a", 2000)?.as_str())?;
-    script.push_str(words_order(alloc, "b", 2001)?.as_str())?;
-    let ended = served(alloc, script.as_bytes())?;
-    assert_eq!(rt; ended.status, 1);
-    assert!(rt;
-        ended.sink.written()
-            == b"{\"call\":1,\"caller\":1,\"command\":\"doc\",\"documents\":1,\"name\":\"a\",\"reply\":\"ok\"}\n{\"call\":2,\"caller\":1,\"command\":\"doc\",\"kind\":\"TooManyTokens\",\"line\":2001,\"name\":\"b\",\"reply\":\"BadDoc\"}\n".as_slice()
-    );
-    Ok(())
+/// The lines of documents and orders that are met at limits, each with the line that answers it.
+const AT_LIMITS: [&[u8]; 4] = [
+    b"{\"call\":52,\"caller\":1,\"command\":\"doc\",\"kind\":\"TooManyTokens\",\"line\":2001,\"name\":\"e\",\"reply\":\"BadDoc\"}",
+    b"{\"call\":54,\"caller\":1,\"command\":\"step\",\"count\":1999000,\"document\":0,\"name\":\"s\",\"reply\":\"Crowded\",\"rule\":1,\"sentence\":0}",
+    b"{\"call\":56,\"caller\":1,\"command\":\"step\",\"name\":\"t\",\"reply\":\"TooMany\",\"weight\":100001}",
+    b"{\"call\":183,\"caller\":1,\"command\":\"open\",\"count\":128,\"name\":\"o126\",\"reply\":\"NoRoom\"}",
+];
+
+/// Whether a text has this line.
+fn has_line(text: &[u8], line: &[u8]) -> bool {
+    text.split(|byte| *byte == b'\n').any(|other| other == line)
+}
+
+/// A script that meets limits: of the words of a sentence, of what a rule finds on one, of what a
+/// session's mentions weigh, and of sessions.
+fn at_limits(alloc: Global) -> Result<String, AllocError> {
+    let mut script = String::from_str(alloc, "query q [] >>+ []\nquery w []\nclient\n")?;
+    for number in 0..51 {
+        let name = format!(in alloc; "d{number}")?;
+        script.push_str(words_order(alloc, name.as_str(), 2000)?.as_str())?;
+    }
+    script.push_str(words_order(alloc, "e", 2001)?.as_str())?;
+    script.push_str("open s q 5\nstep s\nopen t w 5\nstep t\n")?;
+    for number in 0..127 {
+        let order = format!(in alloc; "open o{number} w 5\n")?;
+        script.push_str(order.as_str())?;
+    }
+    Ok(script)
 }
 
 #[test]
-fn sentences_of_13_documents_settle_in_one_segment(rt: HostRuntime) -> Result<(), Fail> {
-    let alloc = rt.alloc();
-    let mut script = String::from_str(alloc, "client\n")?;
-    for number in 0..13 {
-        let name = format!(in alloc; "d{number}")?;
-        script.push_str(words_order(alloc, name.as_str(), 1)?.as_str())?;
+fn what_is_too_much_is_refused(rt: HostRuntime) -> Result<(), Fail> {
+    let script = at_limits(rt.alloc())?;
+    let ended = served(rt.alloc(), script.as_bytes())?;
+    assert_eq!(rt; ended.status, 1);
+    for line in &AT_LIMITS {
+        assert!(rt; has_line(ended.sink.written(), line));
     }
-    script.push_str("settle\n")?;
-    let ended = served(alloc, script.as_bytes())?;
-    assert_eq!(rt; ended.status, 0);
-    let last =
-        b"{\"call\":14,\"caller\":1,\"command\":\"settle\",\"reply\":\"ok\",\"sizes\":[13]}\n";
-    assert!(rt; ended.sink.written().ends_with(last));
+    Ok(())
+}
+
+/// A sentence of the word `bark`.
+const BARK: &[u8] = b"1\tbark\t_\t_\t_\t_\t_\t_\t_\t_\n\n";
+
+/// The refusal of a document, if it is refused, after it was committed otherwise.
+fn refused(
+    workspace: &mut Workspace,
+    alloc: Global,
+    number: u32,
+    body: &[u8],
+) -> Result<Option<Refusal>, NoMemory> {
+    let mut maker = RegexMaker::new(alloc);
+    let Ok(mut heads) = make_heads(alloc, List::new(alloc), &mut maker) else {
+        return Err(NoMemory);
+    };
+    let command = Command::AddDoc {
+        name: Text::from_string(format!(in alloc; "d{number}")?),
+        body: Bytes::from_slice(alloc, body)?,
+    };
+    let Answer { reply, change } = workspace.answer(alloc, &mut heads, 1, &command)?;
+    workspace.change(alloc, change)?;
+    match reply {
+        Reply::Refused(refusal) => Ok(Some(refusal)),
+        _ => Ok(None),
+    }
+}
+
+/// Of 100,001 documents the last has no room.
+#[test]
+fn there_is_room_for_100000_documents(rt: HostRuntime) -> Result<(), Fail> {
+    let mut workspace = Workspace::new(rt.alloc());
+    for number in 0..100001 {
+        let refusal = refused(&mut workspace, rt.alloc(), number, BARK)?;
+        let full = (number == 100000).then_some(Refusal::Full {
+            documents: 100000,
+            bytes: 2400000,
+        });
+        assert_eq!(rt; refusal, full);
+    }
+    Ok(())
+}
+
+/// Documents of 128 MiB together have room, and not one of 24 bytes more.
+#[test]
+fn there_is_room_for_128_mebibytes(rt: HostRuntime) -> Result<(), Fail> {
+    let mut workspace = Workspace::new(rt.alloc());
+    let mut large = vec![in rt.alloc(); b'#'; 1048576 - 25]?;
+    large.push(b'\n')?;
+    large.extend_from_slice(BARK)?;
+    for number in 0..128 {
+        let refusal = refused(&mut workspace, rt.alloc(), number, &large)?;
+        assert_eq!(rt; refusal, None);
+    }
+    let refusal = refused(&mut workspace, rt.alloc(), 128, BARK)?;
+    let full = Refusal::Full {
+        documents: 128,
+        bytes: 134217728,
+    };
+    assert_eq!(rt; refusal, Some(full));
     Ok(())
 }

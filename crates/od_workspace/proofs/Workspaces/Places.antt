@@ -1,5 +1,5 @@
 -- Where the session of a name stands.
-use Rattle.std.proofs.Common.{◌≡◌, ℕ, suc, ◌+◌, List, [], ◌∷◌, map, find, position, slice_get, get_or, length, MatchOption, Option, Some, None, Bool, true, false, cond, refl, sym, ap, ◌∙◌, subst, bytes_eq, arith}
+use Rattle.std.proofs.Common.{◌≡◌, ℕ, suc, ◌+◌, ◌<◌, List, [], ◌∷◌, map, find, position, slice_get, get_or, length, MatchOption, Option, Some, None, Bool, true, false, cond, refl, sym, ap, ◌∙◌, subst, bytes_eq, arith}
 use Rattle.std.specs.List.{position_from}
 use Rattle.std.proofs.lemmas.Iterator.Adapters.{position_from-zero}
 use Rattle.std.proofs.lemmas.Option.{slice_get_read, slice_get_within}
@@ -48,3 +48,11 @@ pub read-at : {X : Type 0} (xs : List X) (i : ℕ) (s t : X) → slice_get xs i 
 read-at xs i s t at is =
     let found : slice_get xs i ≡ Some t = slice_get_read xs (length xs) i t refl (slice_get_within xs i s at) is in
     let both : Some t ≡ Some s = sym found ∙ at in cc
+
+-- one thing stands at a place
+pub one-there : {X : Type 0} (xs : List X) (i : ℕ) (s t : X) → slice_get xs i ≡ Some s → slice_get xs i ≡ Some t → s ≡ t
+one-there xs i s t at there = let both : Some s ≡ Some t = sym at ∙ there in cc
+
+-- what is read at a place stands there
+pub read-there : {X : Type 0} (xs : List X) (i : ℕ) (t : X) → i < length xs → t ≡ get_or xs i t → slice_get xs i ≡ Some t
+read-there xs i t lt is = slice_get_read xs (length xs) i t refl lt is

@@ -15,6 +15,7 @@ use Rattle.od_model.specs.Object.Effects.{change, effect_of}
 use Rattle.od_workspace.specs.declared.workspace.change.Change.{Change}
 use Rattle.od_workspace.specs.declared.workspace.change.Change.TheVariants.{Nothing, Document, Opening, Round, Holder}
 use Rattle.od_workspace.specs.declared.workspace.change.Answer.{Answer}
+use Rattle.od_workspace.specs.Workspaces.Sessions.{IsRunning}
 
 -- the session at a place, changed
 abbrev pub changed_at : ℕ → (SessionState → SessionState) → List SessionState → List SessionState
@@ -30,8 +31,8 @@ ChangesAt name sessions place = (f : SessionState → SessionState) → change n
 abbrev pub changed : OneThread → Change → OneThread
 changed o Nothing = o
 changed o (Document doc) = record o { docs = o.docs ++ doc ∷ [] }
-changed o (Opening session) = record o { sessions = o.sessions ++ session ∷ [] }
-changed o (Round place added) = record o { sessions = changed_at place (λ s. record s { rounds = s.rounds ++ added.mentions ∷ [] }) o.sessions }
+changed o (Opening state running) = record o { sessions = o.sessions ++ state ∷ [] }
+changed o (Round place added) = record o { sessions = changed_at place (λ s. record s { rounds = s.rounds ++ added ∷ [] }) o.sessions }
 changed o (Holder place holder) = record o { sessions = changed_at place (λ s. record s { holder = holder }) o.sessions }
 
 -- a session stands at the place, of which P holds
@@ -46,8 +47,8 @@ IsNextRound docs added s = (phase_with s s.rounds ≡ Going) × (round_at docs s
 abbrev pub Fits : OneThread → Change → Type 0
 Fits o Nothing = Unit {0}
 Fits o (Document doc) = (has_doc o doc.name ≡ false) × (is_full o doc.size ≡ false)
-Fits o (Opening session) = (has_session o session.name ≡ false) × (length o.sessions < SESSIONS)
-Fits o (Round place added) = SessionAt o.sessions place (IsNextRound o.docs added.mentions)
+Fits o (Opening state running) = (has_session o state.name ≡ false) × (length o.sessions < SESSIONS) × IsRunning o.docs state running
+Fits o (Round place added) = SessionAt o.sessions place (IsNextRound o.docs added)
 Fits o (Holder place holder) = SessionAt o.sessions place (λ s. Unit {0})
 
 -- the object answers the caller's command so, and the change is its effect

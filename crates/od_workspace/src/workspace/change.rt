@@ -1,10 +1,11 @@
 //! The answer to a command, and what it changes: both stand before anything is changed.
 ghost use Rattle.std.specs.Prelude.{◌≡◌};
 
-use super::session::Session;
 use od_command::history::{Refusal, Reply};
 use od_document::doc::Doc;
-use od_rounds::hashed::Hashed;
+use od_mentions::State;
+use od_running::Session;
+use od_session::object::SessionState;
 
 /// A change of the documents and sessions.
 #[derive(Drop)]
@@ -12,10 +13,10 @@ pub enum Change {
     Nothing,
     /// One document more.
     Document(Doc),
-    /// One session more.
-    Opening(Session),
+    /// One session more: its state, and the session that runs.
+    Opening(SessionState, Session),
     /// One round more, which added these mentions, of the session at the place.
-    Round { place: usize, added: Hashed },
+    Round { place: usize, added: State },
     /// Another holder of the session at the place, or none.
     Holder { place: usize, holder: Option<u32> },
 }

@@ -4,4 +4,4 @@ use Rattle.od_names.proofs.Named.{named}
 use Rattle.od_workspace.proofs.workspace.Workspace.has_session.Goals as goal
 
 pub returns : goal.returns
-returns c = rw (← c.self.view_is) (c.is_some.ensures ∙ ap is_some c.place.ensures ∙ named (λ s. s.name) c.args.name.now c.self.inside.session_names c.self.inside.sessions.items c.self.invariant.session_names_are)
+returns c = rw (← c.self.view_is) (c.is_some.ensures ∙ ap is_some c.place.ensures ∙ named (λ s. s.name) c.args.name.now c.self.inside.session_names c.self.inside.sessions.items c.self.invariant.kept.session_names_are)

@@ -1,6 +1,0 @@
--- Each call has one word less.
-use Rattle.std.proofs.Common.{length}
-use Rattle.od_rounds.proofs.scan.+begin_with.Given as goal
-
-abbrev pub decreases-begin_with : goal.decreases-begin_with
-decreases-begin_with l = length l.words.now

@@ -1,3 +1,0 @@
-//! Tests that need several crates.
-mod lines;
-mod workspace;
