@@ -1,5 +1,6 @@
 -- The lemmas of this crate.
 pub mod Blocks
+pub mod Gathered
 pub mod Lists
 pub mod Orders
 pub mod Sentences

@@ -10,6 +10,7 @@ mod ordering;
 mod reading;
 mod search;
 mod sentence;
+mod slots;
 mod table;
 
 pub use sentence::IdSentence;

@@ -9,6 +9,7 @@ use crate::collect::{Seen, seen_in};
 use crate::merging::merged;
 use crate::ordering::put_in_order;
 use crate::search::{block, place_of, term_at};
+use crate::slots::{gathered, slots_of};
 use od_document::doc::Doc;
 use od_pattern::pattern::Field;
 use od_text::text::{NoMemory, Text};
@@ -23,6 +24,9 @@ use std::marker::Model;
 pub struct TermTable {
     fields: Vec<Field>,
     texts: Vec<Text>,
+    /// Of the hashes of terms, the place of a term that has it. Any number may stand there: a place
+    /// counts only where the term that is asked for stands at it.
+    slots: Vec<u32>,
 }
 
 impl Model for TermTable {
@@ -51,16 +55,22 @@ fn copied(alloc: Global, terms: &[Seen<'_>]) -> Result<TermTable, NoMemory>
         fields.push(term.0).unwrap();
         texts.push(text).unwrap();
     }
-    Ok(TermTable { fields, texts })
+    let slots = slots_of(alloc, terms)?;
+    Ok(TermTable {
+        fields,
+        texts,
+        slots,
+    })
 }
 
 /// The table of some terms.
-fn table_of(alloc: Global, mut terms: Vec<Seen<'_>>) -> Result<TermTable, NoMemory>
-    requires { vec_len terms < 2 ^ 32 }
-    ensures { IfOk result (λ table. IsTableOf (terms_seen terms.entry.items) table) }
+fn table_of(alloc: Global, terms: &[Seen<'_>]) -> Result<TermTable, NoMemory>
+    requires { length terms.now < 2 ^ 32 }
+    ensures { IfOk result (λ table. IsTableOf (terms_seen terms.now) table) }
 {
-    put_in_order(&mut terms);
-    copied(alloc, &terms)
+    let mut kept = gathered(alloc, terms)?;
+    put_in_order(&mut kept);
+    copied(alloc, &kept)
 }
 
 impl TermTable {
@@ -74,7 +84,7 @@ impl TermTable {
         ensures { IfOk result (λ table. IsTableOf (doc_terms doc.now) table) }
     {
         let terms = seen_in(alloc, doc.sentences.get())?;
-        table_of(alloc, terms)
+        table_of(alloc, &terms)
     }
 
     /// The table of the terms of two tables, by one walk over both. The tables have fewer than 2^32
@@ -99,13 +109,13 @@ impl TermTable {
         self.texts.len() as u32
     }
 
-    /// The number of a text in a field, where it has one; found by halves.
+    /// The number of a text in a field, where it has one; found by its hash, or else by halves.
     pub fn number(&self, field: Field, text: &str) -> Option<u32>
         ensures some { IfSome result (λ n. IsNumber self.now field text.now n) }
         ensures none { IfNone result (Contains self.now (field, text.now) → ⊥) }
         ensures few { length self.now < 2 ^ 32 }
     {
-        match place_of(&self.fields, &self.texts, field, text) {
+        match place_of(&self.fields, &self.texts, &self.slots, field, text) {
             Some(place) => Some(place as u32),
             None => None,
         }
