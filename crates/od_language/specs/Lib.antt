@@ -14,7 +14,6 @@ pub mod Lexed
 pub mod Lexing
 pub mod Machine
 pub mod Narrower
-pub mod Query
 pub mod Spelling
 pub mod Whole
 pub mod WholeRuns

@@ -21,4 +21,3 @@ pub mod Steps
 pub mod Takes
 pub mod Tests
 pub mod Unambiguous
-pub mod Words

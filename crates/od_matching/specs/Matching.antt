@@ -11,4 +11,3 @@ pub mod Laws
 pub mod Reach
 pub mod Rules
 pub mod Scan
-pub mod Words

@@ -4,8 +4,12 @@ use Rattle.std.specs.List.{list_all}
 use Rattle.od_command.specs.declared.history.Command.{Command}
 use Rattle.od_command.specs.declared.history.Command.TheVariants.{AddDoc, OpenSession, Step, Resume, Print, Release, Settle}
 use Rattle.od_order.specs.declared.script.TheConstants.{NAME_BYTES, NUMBER_DIGITS}
-use Rattle.od_language.specs.Query.{is_letter}
 
+-- an ASCII letter
+abbrev pub is_letter : ℕ → Bool
+is_letter b = (nat_le 65 b && nat_le b 90) || (nat_le 97 b && nat_le b 122)
+
+-- an ASCII digit
 abbrev pub is_digit : ℕ → Bool
 is_digit b = nat_le 48 b && nat_le b 57
 

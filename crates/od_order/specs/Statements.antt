@@ -1,7 +1,7 @@
 -- What a line of a script says on its own, or why it says nothing.
-use Rattle.std.specs.Prelude.{ℕ, ◌&&◌, Bool, true, false, List, [], ◌∷◌, Option, Some, None, Result, Ok, Err, if◌then◌else◌, bytes_eq, codes}
+use Rattle.std.specs.Prelude.{ℕ, ◌==◌, ◌&&◌, Bool, true, false, List, [], ◌∷◌, Option, Some, None, Result, Ok, Err, if◌then◌else◌, bytes_eq, codes}
+use Rattle.std.specs.List.{slice_split}
 use Rattle.od_text.specs.Cuts.{split_once}
-use Rattle.od_language.specs.Query.{words_of}
 use Rattle.od_command.specs.declared.history.Command.TheVariants.{AddDoc, OpenSession, Step, Resume, Print, Release, Settle}
 use Rattle.od_order.specs.declared.keyword.Keyword.{Keyword}
 use Rattle.od_order.specs.declared.keyword.Keyword.TheVariants as keyword
@@ -13,6 +13,10 @@ use Rattle.od_order.specs.Lines.{says_nothing}
 use Rattle.od_order.specs.Names.{is_name, script_number}
 
 -- ## The first word
+
+-- the pieces between single spaces
+abbrev pub words_of : List ℕ → List (List ℕ)
+words_of text = slice_split (λ b. b == 32) text
 
 -- the first of some words, between which one space stands each
 abbrev pub first_word : List (List ℕ) → List ℕ

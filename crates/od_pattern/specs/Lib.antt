@@ -1,4 +1,3 @@
 -- The definitions of this crate.
 pub mod Nullable
 pub mod Walk
-pub mod Words

@@ -8,7 +8,6 @@ use Rattle.std.proofs.lemmas.List.Folds.{list_all-append}
 use Rattle.std.proofs.lemmas.Str.{IsUtf8-from_is_utf8, IsUtf8-append}
 use Rattle.od_text.specs.Lists.{Each}
 use Rattle.od_text.specs.Cuts.{split_once}
-use Rattle.od_language.specs.Query.{words_of}
 use Rattle.od_pattern.specs.declared.grammar.GrammarKind.{GrammarKind}
 use Rattle.od_pattern.specs.declared.grammar.GrammarKind.TheVariants.{RuleFile, Query}
 use Rattle.od_pattern.specs.declared.grammar.Head.{Head}
@@ -23,7 +22,7 @@ use Rattle.od_order.specs.declared.script_kind.ScriptKind.TheVariants.{NoClient}
 use Rattle.od_order.specs.Lines.{whole_lines, line_text, says_nothing, has_bad_byte}
 use Rattle.od_order.specs.Names.{is_name}
 use Rattle.od_order.specs.Scripts.{ScriptLine, script_lines, script_after, has_client, has_head, order_count, with_order, with_head, with_rules, misplaced, block_at, take_statement, take_keyword, take_line}
-use Rattle.od_order.specs.Statements.{first_word, keyword_of, keyword_in, begins_head, begins_order, Statement, rules, query, client, document, order, Saying, alone, naming, counting, opening, querying, query_parts, statement_of, block_count, block_behind}
+use Rattle.od_order.specs.Statements.{words_of, first_word, keyword_of, keyword_in, begins_head, begins_order, Statement, rules, query, client, document, order, Saying, alone, naming, counting, opening, querying, query_parts, statement_of, block_count, block_behind}
 use Rattle.od_script.specs.Readers.{line_at}
 use Rattle.od_script.specs.Written.{line_of, line_count, block_bytes, grammar_bytes, order_bytes, ends_a_line, is_grammar_text, IsOrder}
 use Rattle.od_script.proofs.Blocks.{good_bytes}

@@ -14,7 +14,7 @@ use Rattle.std.proofs.lemmas.Str.Parse.{IsNumeralModel, numerals_by_fold}
 use Rattle.std.proofs.lemmas.Fmt.{digits_decimal, digits_value-decimal, decimal_nonempty, first_decimal, decimal_digit, length-decimal-le}
 use Rattle.od_text.specs.Lists.{Each}
 use Rattle.od_text.specs.Cuts.{split_once}
-use Rattle.od_language.specs.Query.{words_of}
+use Rattle.od_order.specs.Statements.{words_of}
 use Rattle.od_order.specs.declared.script.TheConstants.{NUMBER_DIGITS}
 use Rattle.od_order.specs.Names.{is_digit, is_name_byte, is_name, digits_from, script_number}
 use Rattle.od_script.proofs.Blocks.{last_byte}

@@ -1,9 +1,8 @@
 //! What a line says, borrowed from it.
 ghost use Rattle.std.specs.Prelude.{◌≡◌, List as Seq, ℕ, IfOk};
-ghost use Rattle.od_language.specs.Query.{words_of};
 ghost use Rattle.od_text.specs.Cuts.{split_once};
 ghost use Rattle.od_order.specs.Statements as said;
-ghost use Rattle.od_order.specs.Statements.{Statement, alone, naming, counting, opening, querying, query_parts, statement_of, begins_order};
+ghost use Rattle.od_order.specs.Statements.{words_of, Statement, alone, naming, counting, opening, querying, query_parts, statement_of, begins_order};
 ghost use Rattle.od_script.specs.Said.{AreWords, shown, asked_order, is_order, Says};
 
 use crate::words::{Words, cut_space, is_name, number};

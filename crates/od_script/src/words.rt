@@ -3,9 +3,8 @@ ghost use Rattle.std.specs.Prelude.{◌≡◌, ◌≤◌, List as Seq, ℕ, leng
 ghost use Rattle.std.specs.List.{list_all};
 ghost use Rattle.std.specs.Option.{option_map};
 ghost use Rattle.od_text.specs.Cuts.{split_once, both, CutsAt};
-ghost use Rattle.od_language.specs.Query.{words_of};
 ghost use Rattle.od_order.specs.Names.{is_name_byte, is_name, digits_from, script_number};
-ghost use Rattle.od_order.specs.Statements.{first_word, keyword_of};
+ghost use Rattle.od_order.specs.Statements.{words_of, first_word, keyword_of};
 ghost use Rattle.od_order.specs.declared.script.TheConstants.{NUMBER_DIGITS};
 ghost use Rattle.od_script.specs.Said.{AreWords};
 

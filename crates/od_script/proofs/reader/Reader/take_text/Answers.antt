@@ -1,5 +1,5 @@
 use Rattle.std.proofs.Common.{◌∙◌, sym}
-use Rattle.od_language.specs.Query.{words_of}
+use Rattle.od_order.specs.Statements.{words_of}
 use Rattle.od_script.proofs.Folds.{text_taken, said_block, takes_as}
 use Rattle.od_script.specs.Said.{shown}
 use Rattle.od_script.proofs.reader.Reader.take_text.Goals as goal
