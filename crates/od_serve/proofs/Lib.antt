@@ -2,4 +2,3 @@
 pub mod ClientLemmas
 pub mod Outcomes
 pub mod Steps
-pub mod Sent

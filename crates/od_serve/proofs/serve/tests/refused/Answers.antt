@@ -1,7 +1,7 @@
 -- The runners of the maker can be sent to another thread.
 use denote.Exit as exit
 use denote.Param.Send.{param_send, arg_send}
-use Rattle.od_serve.proofs.Sent.{runner_send}
+use Rattle.od_io.proofs.Sent.{runner_send}
 use Rattle.od_serve.proofs.serve.tests.refused.Goals as goal
 
 pub make_heads-requires-send-M-Runner : goal.make_heads-requires-send-M-Runner
