@@ -133,5 +133,6 @@ pub fn label(alloc: Global, text: &str) -> Result<Text, NoMemory>
 pub fn fold(alloc: Global, text: &str) -> Result<Text, NoMemory>
     ensures { IfOk result (λ t. t ≡ fold_text text.now) }
 {
-    Ok(Text::from_string(default_case_fold_str(alloc, text)?))
+    let folded = default_case_fold_str(alloc, text)?;
+    Text::from_str(alloc, folded.as_str())
 }

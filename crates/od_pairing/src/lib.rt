@@ -5,5 +5,3 @@ pub mod laws;
 pub mod pairs;
 mod progress;
 mod targets;
-#[cfg(test)]
-mod tests;

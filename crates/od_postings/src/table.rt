@@ -2,12 +2,14 @@
 ghost use Rattle.std.specs.Prelude.{◌≡◌, ◌<◌, ◌+◌, ◌++◌, ◌^◌, length, IfOk, Contains, vec_len, IfSome, IfNone};
 ghost use Rattle.od_index.specs.Terms.{doc_terms};
 ghost use Rattle.od_index.specs.Tables.{IsAscending, IsTableOf, IsNumber};
+ghost use Rattle.od_postings.specs.Arrivals.{Renumbers};
 ghost use Rattle.od_postings.specs.Seen.{terms_seen};
 ghost use Rattle.od_postings.specs.Tables.{IsBlock};
 
 use crate::collect::{Seen, seen_in};
 use crate::merging::merged;
 use crate::ordering::put_in_order;
+use crate::renumbering::numbers_of;
 use crate::search::{block, place_of, term_at};
 use crate::slots::{gathered, slots_of};
 use od_document::doc::Doc;
@@ -42,6 +44,15 @@ impl Model for TermTable {
     ghost invariant = { λ t. IsTable t.fields.items t.texts.items };
 }
 
+/// The table of two tables, and for each of both, of each of its terms in their order, the number in
+/// that table.
+#[derive(Drop)]
+pub struct Union {
+    pub table: TermTable,
+    pub left: Vec<u32>,
+    pub right: Vec<u32>,
+}
+
 /// The table of terms that ascend. Each text is copied, once.
 fn copied(alloc: Global, terms: &[Seen<'_>]) -> Result<TermTable, NoMemory>
     requires short { length terms.now < 2 ^ 32 }
@@ -73,6 +84,16 @@ fn table_of(alloc: Global, terms: &[Seen<'_>]) -> Result<TermTable, NoMemory>
     copied(alloc, &kept)
 }
 
+/// The table of some terms that have few repeats.
+pub(crate) fn table_of_few(alloc: Global, terms: &[Seen<'_>]) -> Result<TermTable, NoMemory>
+    requires { length terms.now < 2 ^ 32 }
+    ensures { IfOk result (λ table. IsTableOf (terms_seen terms.now) table) }
+{
+    let mut kept = Vec::from_slice(alloc, terms)?;
+    put_in_order(&mut kept);
+    copied(alloc, &kept)
+}
+
 impl TermTable {
     /// The table of the terms of a document: the texts of its tokens, and the label of each of its
     /// edges as an incoming and as an outgoing one.
@@ -99,6 +120,27 @@ impl TermTable {
     {
         let terms = merged(alloc, left, right)?;
         copied(alloc, &terms)
+    }
+
+    /// The table of the terms of two tables, and of each term of either its number there.
+    ///
+    /// # Errors
+    ///
+    /// `NoMemory` where memory is refused.
+    pub fn union_with(alloc: Global, left: &TermTable, right: &TermTable) -> Result<Union, NoMemory>
+        requires { length left.now + length right.now < 2 ^ 32 }
+        ensures table { IfOk result (λ u. IsTableOf (left.now ++ right.now) u.table) }
+        ensures left { IfOk result (λ u. Renumbers left.now u.table u.left.items) }
+        ensures right { IfOk result (λ u. Renumbers right.now u.table u.right.items) }
+    {
+        let table = TermTable::union(alloc, left, right)?;
+        let of_left = numbers_of(alloc, left, &table)?;
+        let of_right = numbers_of(alloc, right, &table)?;
+        Ok(Union {
+            table,
+            left: of_left,
+            right: of_right,
+        })
     }
 
     /// How many terms it has.

@@ -7,6 +7,4 @@ pub mod compile;
 pub mod links;
 pub mod moves;
 pub mod reaching;
-#[cfg(test)]
-mod tests;
 pub mod walk;

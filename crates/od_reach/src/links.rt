@@ -17,6 +17,16 @@ pub struct Links {
     pub(crate) against: Vec<List<u32>>,
 }
 
+impl Links {
+    /// No edges, for a rule that has no path. It takes no memory.
+    pub fn none(alloc: Global) -> Links {
+        Links {
+            along: Vec::new(alloc),
+            against: Vec::new(alloc),
+        }
+    }
+}
+
 /// One end of an edge: its governor, or its dependent.
 pub(crate) fn end_at(sentence: &IdSentence, place: u32, governor: bool) -> u32
     requires { place < length sentence.now.sentence.edges }

@@ -1,5 +1,5 @@
 -- A hop made ready: its surfaces, their rows and their matches.
-use Rattle.std.proofs.Common.{◌≡◌, ℕ, ◌+◌, ◌≤◌, Bool, List, [], ◌∷◌, ◌++◌, length, refl, sym, ◌∙◌, ap, subst, arith, length-append}
+use Rattle.std.proofs.Common.{◌≡◌, ℕ, ◌+◌, ◌≤◌, Bool, List, [], ◌∷◌, ◌++◌, length, refl, sym, ◌∙◌, ap, subst, arith, length-append, Option, None, Some}
 use Rattle.std.proofs.lemmas.List.{length-map}
 use Rattle.std.specs.List.{flat_map, AllZip}
 use Rattle.od_text.specs.Lists.{Each}
@@ -8,6 +8,7 @@ use Rattle.od_asked.specs.Asked.{asked_hop, asked_part, asked_path, asked_surfac
 use Rattle.od_asked.specs.Tables.{RowsFit, columns_of, truths}
 use Rattle.od_document.specs.declared.sentence.Sentence.{Sentence}
 use Rattle.od_extraction.specs.declared.mention.Labelled.{Labelled}
+use Rattle.od_matching.specs.Matching.Hops.{hop_lists, lists_from, last_of, later_of, first_over, count_where_any, hop_count, most_found}
 use Rattle.od_matching.specs.Matching.Scan.{scan_of}
 use Rattle.od_pairing.specs.Hop.{hop_scans, part_scans}
 use Rattle.od_pattern.specs.declared.pattern.Surface.{Surface}
@@ -76,3 +77,20 @@ hop_within h s rows programs is zip =
     let both : length (asked_hop h) ≡ length (asked_surface h.first) + length (flat_map asked_part h.rest) = length-append (asked_surface h.first) (flat_map asked_part h.rest) in
     firsts_within (length rows) programs (body_surfaces (Basic h)) zip
     ((let z : 0 ≤ length rows = omega arith in z), parts_within (length (asked_surface h.first)) (length rows) h.rest (omega (arith, long, both)))
+
+-- ## A hop whose first part matches nowhere
+
+last-none : (s : Sentence) (m : List Labelled) (parts : List HopPart) → last_of (lists_from s m [] parts) ≡ []
+last-none s m [] = refl
+last-none s m (part ∷ []) = refl
+last-none s m (part ∷ next ∷ rest) = last-none s m (next ∷ rest)
+
+count-none : (o : Option ℕ) → count_where_any o [] ≡ None
+count-none None = refl
+count-none (Some n) = refl
+
+pub nowhere-last : (h : Hop) (s : Sentence) (m : List Labelled) → scan_of h.first s m ≡ [] → last_of (hop_lists h s m) ≡ []
+nowhere-last h s m e = ap (λ z. last_of (lists_from s m z h.rest)) e ∙ last-none s m h.rest
+
+pub nowhere-count : (h : Hop) (s : Sentence) (m : List Labelled) → scan_of h.first s m ≡ [] → hop_count most_found (hop_lists h s m) ≡ None
+nowhere-count h s m e = ap (count_where_any (first_over most_found (later_of (hop_lists h s m)))) (nowhere-last h s m e) ∙ count-none (first_over most_found (later_of (hop_lists h s m)))

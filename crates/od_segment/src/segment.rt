@@ -2,14 +2,12 @@
 ghost use Rattle.std.specs.Prelude.{◌≡◌, ◌<◌, ◌+◌, ◌^◌, ◌∷◌, [], length, map, slice_get, Some, IfOk, IsSomeAnd};
 ghost use Rattle.std.specs.Arc.{arc_value};
 ghost use Rattle.od_index.specs.Segments.{StandsFor};
-ghost use Rattle.od_index.specs.Tables.{IsTableOf};
-ghost use Rattle.od_index.specs.Terms.{terms_of};
+ghost use Rattle.od_text.specs.Lists.{Each};
 ghost use Rattle.od_segment.specs.Placed.{site_of, numbered, AreOver, AreWithin};
 
 use crate::steps::Steps;
 use od_document::doc::Doc;
-use od_document::sentence::Sentence;
-use od_postings::{IdSentence, TermTable};
+use od_postings::{IdSentence, IndexedDoc, TermTable};
 use od_text::text::NoMemory;
 use std::alloc::Global;
 use std::marker::Model;
@@ -40,6 +38,7 @@ impl Model for Segment {
     ghost use Rattle.std.specs.Prelude.{map};
     ghost use Rattle.std.specs.Arc.{arc_value};
     ghost use Rattle.od_index.specs.Segments.{Stored};
+    ghost use Rattle.od_text.specs.Lists.{Each};
     ghost use Rattle.od_segment.specs.Placed.{site_of, IsSegment};
 
     ghost Value = { Stored };
@@ -53,26 +52,26 @@ impl Model for Segment {
     ghost invariant = { λ s. IsSegment s.documents s.sentences.items (arc_value s.table) };
 }
 
-/// The sentences of the first document of a segment, as numbers of a table.
+/// The sentences of the first document of a segment, where they stand.
 fn place_all(
     alloc: Global,
-    sentences: &[Sentence],
-    table: &Arc<TermTable, Global>,
+    sentences: Vec<IdSentence>,
+    _table: &Arc<TermTable, Global>,
 ) -> Result<Vec<Placed>, NoMemory>
-    requires few { length sentences.now < 2 ^ 32 }
-    requires table { IsTableOf (terms_of sentences.now) (arc_value table.now) }
+    requires few { length sentences.items < 2 ^ 32 }
+    requires over { Each (λ s. s.table ≡ arc_value _table.now) sentences.items }
     ensures sites { IfOk result (λ placed.
-        map site_of placed.items ≡ numbered sentences.now) }
-    ensures over { IfOk result (λ placed. AreOver (arc_value table.now) placed.items) }
+        map site_of placed.items ≡ numbered (map (λ s. s.sentence) sentences.items)) }
+    ensures over { IfOk result (λ placed. AreOver (arc_value _table.now) placed.items) }
     ensures within { IfOk result (λ placed. AreWithin 1 placed.items) }
-    ensures count { IfOk result (λ placed. length placed.items ≡ length sentences.now) }
+    ensures count { IfOk result (λ placed. length placed.items ≡ length sentences.items) }
 {
     let mut placed = Vec::with_capacity(alloc, sentences.len())?;
-    for (number, sentence) in sentences.iter().enumerate() {
-        let words = IdSentence::build(alloc, sentence, table)?;
+    for words in sentences {
+        let number = placed.len() as u32;
         placed.push(Placed {
             document: 0,
-            number: number as u32,
+            number,
             words,
         })?;
     }
@@ -88,8 +87,8 @@ impl Segment {
     pub fn build(alloc: Global, doc: &Doc) -> Result<Segment, NoMemory>
         ensures { IfOk result (StandsFor (doc.now ∷ [])) }
     {
-        let table = Arc::new(alloc, TermTable::build(alloc, doc)?)?;
-        let sentences = place_all(alloc, doc.sentences.get(), &table)?;
+        let IndexedDoc { table, sentences } = IndexedDoc::build(alloc, doc)?;
+        let sentences = place_all(alloc, sentences, &table)?;
         Ok(Segment {
             table,
             documents: 1,

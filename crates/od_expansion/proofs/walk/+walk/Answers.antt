@@ -74,3 +74,12 @@ expand_text-loop-out-preserved t c = record {
       c.next_occurrence.new.out c.append_variable.new.out c.append_variable.new.states.items (rw c.in-Some.is at c.in_ok-name.ensures)
       (subst (λ (n : List ℕ). AppendsVariable c.args.vars.now n c.next_occurrence.new.out c.append_variable.new.out) c.in_ok-variable.ensures c.in-Ok.ensures.value) c.in-Ok.ensures.states;
 }
+
+pub expand_text-loop-out-preserved-in-Ok : goal.expand_text-loop-out-preserved-in-Ok
+expand_text-loop-out-preserved-in-Ok t c = record {
+  utf8 = search rules;
+  states = keeps_more c.args.vars.now c.args.states.now.items c.loop-out.states.items c.append_variable.new.states.items c.loop-out.invariant.states c.in-Ok.ensures.states;
+  walked = walked_more c.args.vars.now c.args.names.now c.args.text.now c.loop-out.rest.now c.args.states.now.items c.loop-out.states.items c.loop-out.out c.loop-out.invariant.walked c.in-Some.name.now c.in-Some.after.now
+      c.next_occurrence.new.out c.append_variable.new.out c.append_variable.new.states.items (rw c.in-Some.is at c.in_ok-name.ensures)
+      (subst (λ (n : List ℕ). AppendsVariable c.args.vars.now n c.next_occurrence.new.out c.append_variable.new.out) c.in_ok-variable.ensures c.in-Ok.ensures.value) c.in-Ok.ensures.states;
+}
