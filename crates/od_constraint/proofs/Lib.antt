@@ -1,4 +1,5 @@
 pub mod AskedLemmas
+pub mod FittingLemmas
 pub mod HitLemmas
 pub mod Lists
 pub mod MarkLemmas

@@ -1,5 +1,6 @@
 -- The definitions of this crate.
 pub mod Asking
+pub mod Fitting
 pub mod Hits
 pub mod Noted
 pub mod Places

@@ -2,6 +2,7 @@
 //! are compared once, with the texts of the table; a sentence costs numbers alone.
 #![tactic(auto)]
 
+mod fitting;
 mod hits;
 mod noted;
 mod places;
@@ -9,10 +10,9 @@ mod resolving;
 mod rows;
 mod runners;
 mod steps;
-#[cfg(test)]
-mod tests;
 mod truths;
 
+pub use fitting::{numbers_equal, numbers_matching};
 pub use resolving::{Resolved, ResolvedLabel, resolve, resolve_label};
 pub use runners::Runners;
 pub use truths::{edge_truth, truth};

@@ -9,5 +9,3 @@ mod counting;
 pub mod matches;
 mod options;
 pub mod spans;
-#[cfg(test)]
-mod tests;

@@ -5,7 +5,5 @@ mod captures;
 pub mod event;
 mod head;
 mod lines;
-#[cfg(test)]
-mod tests;
 
 pub use event::parse_event;

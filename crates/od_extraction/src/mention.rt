@@ -8,6 +8,10 @@ use std::alloc::Global;
 /// What the mentions of a session may weigh together: each weighs one and the number of its parts.
 pub const SESSION_WEIGHT: u64 = 100_000;
 
+/// The most elements of a list after one of a hop's parts, and the most mentions of an event rule on
+/// a sentence.
+pub const MOST_FOUND: u64 = 10_000;
+
 /// The tokens of a sentence from a start to an end that is not included, numbered from 0.
 #[derive(Clone, Copy, Debug, PartialEq, Eq)]
 pub struct Span {

@@ -5,6 +5,7 @@ pub mod Asked
 pub mod Items
 pub mod KnownLabels
 pub mod Refusals
+pub mod Sent
 pub mod SurfaceLabels
 pub mod Telling
 pub mod Wholes

@@ -4,8 +4,6 @@
 mod ends;
 pub mod joints;
 pub mod surface;
-#[cfg(test)]
-mod tests;
 pub mod text;
 
 pub use text::{Measured, hop_at, parse_hop};

@@ -14,6 +14,3 @@ pub const GREATEST_NUMBER: u32 = 1_000;
 
 /// How large a pattern may be.
 pub const PATTERN_SIZE: usize = 10_000;
-
-/// How many bytes the text of a pattern may have.
-pub const PATTERN_BYTES: usize = 16_384;

@@ -5,8 +5,6 @@ pub mod constraint;
 pub mod form;
 pub mod lexer;
 pub mod scan;
-#[cfg(test)]
-mod tests;
 
 pub use constraint::{constraint_at, depth_at, parse_constraint};
 pub use lexer::{Lexed, lex, lex_at, tokens};

@@ -9,6 +9,4 @@ mod points;
 pub mod program;
 pub mod scan;
 pub mod spans;
-#[cfg(test)]
-mod tests;
 mod thread;

@@ -1,6 +1,6 @@
 //! Where a history goes on from.
-use crate::rows::Rows;
 use od_pattern::grammar::Head;
+use od_row::rows::Rows;
 use od_text::list::List;
 use od_text::text::Bytes;
 

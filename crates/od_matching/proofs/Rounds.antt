@@ -1,4 +1,5 @@
 pub mod Examples
+pub mod Found
 pub mod Joined
 pub mod Kept
 pub mod Later

@@ -6,8 +6,6 @@ pub mod path;
 pub mod size;
 pub mod step;
 pub mod steps;
-#[cfg(test)]
-mod tests;
 pub mod text;
 
 pub use path::{parse_path, path_at};

@@ -4,3 +4,4 @@ pub mod Hops
 pub mod Outcomes
 pub mod Places
 pub mod Scanned
+pub mod Sent

@@ -6,8 +6,6 @@ pub mod lexemes;
 pub mod single;
 pub mod sizes;
 pub mod surface;
-#[cfg(test)]
-mod tests;
 pub mod text;
 mod turns;
 

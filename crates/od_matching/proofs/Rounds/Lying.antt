@@ -71,7 +71,7 @@ module _ (docs : List Doc) where
       )
 
   -- what a walk has found
-  abbrev ResultLies : RoundResult → Type 0
+  abbrev pub ResultLies : RoundResult → Type 0
   ResultLies (Found new) = Each (LiesIn docs) new
   ResultLies (Crowded rule document sentence count) = Unit {0}
   ResultLies (TooMany total) = Unit {0}
@@ -95,7 +95,7 @@ module _ (docs : List Doc) where
     lies-all r [] h k = h
     lies-all r (x ∷ xs) h k = lies-all (walked old r x) xs (lies-walked r x h k.0) k.1
 
-  round-lies : (g : Grammar) (r : ℕ) (old : List Mention) → ResultLies (round docs g r old)
+  pub round-lies : (g : Grammar) (r : ℕ) (old : List Mention) → ResultLies (round docs g r old)
   unfolding round_over
   round-lies g r old = lies-all (distinct old) (Found []) (items docs g r (distinct old)) tt (items-lie g r (distinct old))
 
