@@ -1,4 +1,4 @@
-//! Commands, replies and entries, and the lines that they are written as.
+//! Commands, replies and entries.
 #![tactic(auto)]
 
 pub mod history;

@@ -1,8 +1,11 @@
 -- Which expression a refusal tells.
-use Rattle.std.proofs.Common.{◌≡◌, ℕ, ◌+◌, ◌<◌, List, [], ◌∷◌, ◌++◌, length, take, drop, get_or, Some, false, refl, sym, ap, ◌∙◌, subst, bytes_eq, arith}
+use Rattle.std.proofs.Common.{◌≡◌, inl, inr, ℕ, ◌+◌, ◌<◌, List, [], ◌∷◌, ◌++◌, length, take, drop, get_or, Some, false, refl, sym, ap, ◌∙◌, subst, bytes_eq, arith}
 use Rattle.std.specs.Prelude.{◌||◌, not, if◌then◌else◌}
+use Rattle.std.proofs.Math.ListN.{drop_of_length-le}
 use Rattle.std.proofs.lemmas.List.{drop_at, drop_more, length-take, length-map, map-append, take-append-drop}
+use Rattle.od_rule_text.specs.declared.grammar_fault.GrammarFault.{GrammarFault}
 use Rattle.od_rule_text.specs.declared.grammar_fault.GrammarFault.TheVariants.{RegexRefused}
+use Rattle.od_session.specs.Grammars.{RefusedAsTold}
 use Rattle.od_rule_text.specs.Expressions.{Appearance}
 use Rattle.od_rule_text.specs.Grammars.{refusal}
 use Rattle.od_rule_text.specs.Texts.{is_among}
@@ -46,12 +49,26 @@ parts found i one lt e =
     ap uses (sym (take-append-drop i found) ∙ ap (λ (z : List Use). take i found ++ z) (drop_more found i one lt ∙ ap (λ (z : Use). z ∷ drop (i + 1) found) (sym e)))
     ∙ map-append use_of (take i found) (one ∷ drop (i + 1) found)
 
+-- what a maker refused in a call that refused one expression
+pub since_one : (before after : List (List ℕ)) (expression : List ℕ) → after ≡ before ++ expression ∷ [] → refused_since before after ≡ expression ∷ []
+since_one before after expression more = ap (drop (length before)) more ∙ drop_at before (expression ∷ []) (length before) refl
+
+-- and in one that refused none
+pub since_none : (before after : List (List ℕ)) → after ≡ before → refused_since before after ≡ []
+since_none before after same = ap (drop (length before)) same ∙ drop_of_length-le before (omega arith)
+
+pub told_none : (f : GrammarFault) (before after : List (List ℕ)) → after ≡ before → RefusedAsTold f (refused_since before after)
+told_none f before after same = inl (since_none before after same)
+
+pub told_one : (rule number : ℕ) (before after : List (List ℕ)) (expression : List ℕ) → after ≡ before ++ expression ∷ [] → RefusedAsTold (RegexRefused rule number) (refused_since before after)
+told_one rule number before after expression more = inr (expression, since_one before after expression more, tt)
+
 -- one refusal more
 pub told_refusal : (found : List Use) (i made : ℕ) (one : Use) (before after : List (List ℕ)) → AreNew [] (uses found) → i < length found → one ≡ get_or found i one → made ≡ i
     → after ≡ before ++ one.expression.now ∷ []
     → refusal (accepts_all_but (refused_since before after)) 1 (uses found) ≡ Some (RegexRefused one.rule (made + 1))
 told_refusal found i made one before after new lt e at more =
-    let since : refused_since before after ≡ one.expression.now ∷ [] = ap (drop (length before)) more ∙ drop_at before (one.expression.now ∷ []) (length before) refl in
+    let since = since_one before after one.expression.now more in
     let is = parts found i one lt e in
     let long : length (uses (take i found)) ≡ length (take i found) = length-map (take i found) use_of in
     let number : 1 + length (uses (take i found)) ≡ made + 1 = omega (arith, long, length-take i found) in

@@ -3,9 +3,10 @@ ghost use Rattle.std.specs.Prelude.{◌≡◌, Ok, IfOk, IfErr, OnOk};
 ghost use Rattle.od_asked.specs.Asked.{asked_rule};
 ghost use Rattle.od_asked.specs.Expressions.{expressions_of as asked_expressions};
 ghost use Rattle.od_constraint.specs.Runners.{AreOwn, HaveAll, patterns_of};
-ghost use Rattle.od_grammar.specs.Faults.{IsBuildFault};
+ghost use Rattle.od_grammar.specs.Faults.{IsBuildFault, refused_since};
 ghost use Rattle.od_grammars.specs.Grammars.{grammar_read};
 ghost use Rattle.od_rule_text.specs.Expressions.{body_expressions, expressions_of};
+ghost use Rattle.od_session.specs.Grammars.{RefusedAsTold};
 ghost use Rattle.od_text.specs.Lists.{Each};
 
 use crate::limit::{is_passed, limit_fault};
@@ -35,8 +36,9 @@ pub struct Built<R> {
 /// rules, too many variables, those of the rules one after another, a label that is that of no
 /// rule, more different expressions than there is room for, the first expression that the maker
 /// refuses.
-/// Each expression is made once, in the order of first appearance, and none behind one that was
-/// refused. `NoMemory` may come at any place.
+/// Where a fault is told, the maker refused nothing, or the one expression that the fault tells. As
+/// the code stands, each expression is made once, in the order of first appearance, and none behind
+/// one that was refused; no clause says this. `NoMemory` may come at any place.
 pub fn build<M: PatternMaker>(
     alloc: Global,
     kind: GrammarKind,
@@ -56,6 +58,8 @@ where
     ensures none_refused { OnOk result (M.refused maker.new ≡ M.refused maker.old) }
     ensures err { IfErr result
         (IsBuildFault (M.refused maker.old) (M.refused maker.new) kind text.now room) }
+    ensures told { IfErr result (λ f.
+        RefusedAsTold f (refused_since (M.refused maker.old) (M.refused maker.new))) }
 {
     if is_passed(GrammarLimit::GrammarBytes, text.len()) {
         return Err(limit_fault(GrammarLimit::GrammarBytes));

@@ -5,6 +5,7 @@ ghost use Rattle.od_grammar.specs.Faults.{accepts_all_but, refused_since};
 ghost use Rattle.od_grammar.specs.Telling.{Tells};
 ghost use Rattle.od_grammar.specs.Uses.{AreNew, uses};
 ghost use Rattle.od_rule_text.specs.Grammars.{refusal};
+ghost use Rattle.od_session.specs.Grammars.{RefusedAsTold};
 
 use crate::expressions::Use;
 use od_constraint::Runners;
@@ -43,6 +44,7 @@ where
     ensures none_refused { OnOk result (M.refused maker.new ≡ M.refused maker.old) }
     ensures refused { IsErrOf result MakeFault.Refused
         → M.refused maker.new ≡ M.refused maker.old ++ expression.now ∷ [] }
+    ensures memory { IsErrOf result MakeFault.NoMemory → M.refused maker.new ≡ M.refused maker.old }
 {
     match maker.make(alloc, expression.get()) {
         Ok(runner) => match keep(alloc, expression, runner, runners) {
@@ -71,6 +73,8 @@ where
     ensures err { IfErr result (Tells (λ f.
         refusal (accepts_all_but (refused_since (M.refused maker.old) (M.refused maker.new)))
         1 (uses found.now) ≡ Some f)) }
+    ensures told { IfErr result (λ f.
+        RefusedAsTold f (refused_since (M.refused maker.old) (M.refused maker.new))) }
 {
     let mut runners = Runners::new(alloc);
     let mut made: u32 = 0;

@@ -8,6 +8,7 @@ ghost use Rattle.od_grammar.specs.Telling.{Tells};
 ghost use Rattle.od_rule_text.specs.Expressions.{body_expressions, expressions_of};
 ghost use Rattle.od_rule_text.specs.Expressions.{first_appearances};
 ghost use Rattle.od_rule_text.specs.Grammars.{refusal, whole_fault};
+ghost use Rattle.od_session.specs.Grammars.{RefusedAsTold};
 
 use crate::expressions::first_uses;
 use crate::labels::check_labels;
@@ -37,6 +38,8 @@ where
     ensures err { IfErr result (Tells (λ f. option_or (whole_fault patterns room rules.now)
         (refusal (accepts_all_but (refused_since (M.refused maker.old) (M.refused maker.new)))
         1 (first_appearances body_expressions rules.now)) ≡ Some f)) }
+    ensures told { IfErr result (λ f.
+        RefusedAsTold f (refused_since (M.refused maker.old) (M.refused maker.new))) }
 {
     match check_labels(alloc, rules) {
         Ok(()) => {}

@@ -14,8 +14,8 @@ use Rattle.od_command.specs.declared.history.Entry.{Entry}
 use Rattle.od_document.specs.declared.token.Token.{Token}
 use Rattle.od_document.specs.declared.sentence.Sentence.{Sentence}
 use Rattle.od_document.specs.declared.doc.Doc.{Doc}
-use Rattle.od_command.specs.Lines.Entries.{own_line}
-use Rattle.od_command.specs.Lines.Mentions.{mention_line}
+use Rattle.od_line.specs.Entries.{own_line}
+use Rattle.od_line.specs.Mentions.{mention_line}
 
 -- the entry of caller 1
 abbrev entry : ℕ → Command → Reply → Entry

@@ -11,8 +11,8 @@ use Rattle.od_command.specs.declared.history.Refusal.{Refusal}
 use Rattle.od_command.specs.declared.history.Refusal.TheVariants.{BadDoc, Duplicate, Full, NoGrammar, BadLimit, Taken, NoRoom, NoSession, Busy, NotHeld, Finished, AtLimit, Crowded, TooMany}
 use Rattle.od_command.specs.declared.history.Entry.{Entry}
 use Rattle.od_text.specs.Lists.{Each}
-use Rattle.od_command.specs.Lines.Data.{count, with_members, object_of}
-use Rattle.od_command.specs.Lines.Entries.{name_of, name_members, entry_members, refusal_members, reply_members}
+use Rattle.od_line.specs.Data.{count, with_members, object_of}
+use Rattle.od_line.specs.Entries.{name_of, name_members, entry_members, refusal_members, reply_members}
 
 -- the value of a member has no float
 abbrev IsPlain : List ℕ × Data → Type 0

@@ -10,8 +10,8 @@ use Rattle.serde_json.specs.Written.{outline, items_outline}
 use Rattle.serde_json.proofs.Texts.{print-outline}
 use Rattle.od_document.specs.declared.token.Token.{Token}
 use Rattle.od_extraction.specs.declared.mention.Mention.{Mention}
-use Rattle.od_command.specs.Lines.Data.{line_of}
-use Rattle.od_command.specs.Lines.Mentions.{text_in, part_data, mention_data}
+use Rattle.od_line.specs.Data.{line_of}
+use Rattle.od_line.specs.Mentions.{text_in, part_data, mention_data}
 
 -- what is written after what was written
 written-more : {X : Type 0} (old some more now last : List X) → now ≡ old ++ some → last ≡ now ++ more → last ≡ old ++ (some ++ more)

@@ -7,7 +7,7 @@ use Rattle.std.proofs.lemmas.List.{length-map, length-take, length-drop, map-app
 use Rattle.std.proofs.lemmas.Option.{slice_get_within}
 use Rattle.od_document.specs.declared.token.Token.{Token}
 use Rattle.od_index.specs.Sentences.{Indexed}
-use Rattle.od_command.specs.Lines.Mentions.{text_in, tokens_in}
+use Rattle.od_line.specs.Mentions.{text_in, tokens_in}
 use Rattle.od_postings.proofs.Lists.{taken_more}
 use Rattle.od_lines.specs.Words.{tokens_of}
 

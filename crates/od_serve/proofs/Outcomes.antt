@@ -14,13 +14,13 @@ use Rattle.od_session.specs.Grammars.{AreRead}
 use Rattle.od_session.specs.Parts.{nothing}
 use Rattle.od_model.specs.History.Orders.{Follows, Begins}
 use Rattle.od_model.specs.Run.Clients.{EachClient, OfClients, IsHistoryOf, has_refusal}
-use Rattle.od_model.specs.Run.Ends.{CanEndSo}
+use Rattle.od_model.specs.Run.Ends.{CanEndSo, RefusedBy}
 use Rattle.od_model.specs.Run.Outcome.{Outcome, Outside, DidNothing, IsNoScript, IsScriptOf, IsWritten, IsCutShort}
 use Rattle.od_model.proofs.Histories.Prints.{prints-rounds}
 use Rattle.od_order.specs.Scripts.{nothing_said, script_lines, script_after, script_of}
 use Rattle.od_order.specs.Lines.{whole_lines}
 use Rattle.od_desk.specs.Desks.{Taken, Origin, DeskState, AreLines, IsDesk}
-use Rattle.od_serve.specs.Running.Ends.{RunOutcome, NeverBegan, run_status}
+use Rattle.od_serve.specs.Running.Ends.{RunOutcome, NeverBegan, Ran, run_status}
 
 -- the history of a desk that began with a script's grammars, and its clients' entries
 pub history-of : (script : Script) (d : DeskState) → d.origin.heads ≡ script.heads → AreRead script.heads → IsDesk d → OfClients script.clients d.history → EachClient Begins script.clients d.history → IsHistoryOf d.origin.start script d.history
@@ -66,6 +66,16 @@ unrun (BadGrammar name fault) left now refused h = (record { none = refl; same =
 unrun ReadFault left now refused h = record { none = refl; same = refl }
 unrun NoMemory left now refused h = inl (record { none = refl; same = refl })
 unrun status left now refused h = absurd h
+
+-- a run that began tells no refused expression
+run-refused : (followed : Result Bool Failed) (some : Bool) (refused : List (List ℕ)) → refused ≡ [] → RefusedBy (run_status followed some) refused
+run-refused (Ok true) true refused none = none
+run-refused (Ok true) false refused none = none
+run-refused (Ok false) some refused none = none
+run-refused (Err failed) some refused none = none
+
+pub ran-refused : (status : Status) (refused : List (List ℕ)) → Ran status → refused ≡ [] → RefusedBy status refused
+ran-refused status refused (followed, some, is) none = subst (λ s. RefusedBy s refused) (sym is) (run-refused followed some refused none)
 
 -- too many bytes are no script
 long-no-script : (bytes : List ℕ) → SCRIPT_BYTES < length bytes → script_of bytes ≡ Err (0, TooLong)

@@ -5,7 +5,7 @@ ghost use Rattle.od_io.specs.Streams.Count.{Rose};
 ghost use Rattle.od_session.specs.Grammars.{AreRead};
 ghost use Rattle.od_order.specs.Laws.{IsFew};
 ghost use Rattle.od_model.specs.Run.Clients.{has_refusal};
-ghost use Rattle.od_model.specs.Run.Ends.{Answered, CanEndSo, HasStatus};
+ghost use Rattle.od_model.specs.Run.Ends.{Answered, CanEndSo, HasStatus, RefusedBy};
 ghost use Rattle.od_model.specs.Run.Outcome.{IsScriptOf};
 ghost use Rattle.od_model.specs.Run.Words.{is_serve};
 ghost use Rattle.od_serve.specs.Running.Ends.{RunOutcome, NeverBegan, Ran, run_status, Ends};
@@ -24,9 +24,6 @@ use od_order::script_kind::ScriptKind;
 use od_script::{ScriptFault, read_script};
 use od_text::list::List;
 use std::alloc::Global;
-
-#[cfg(test)]
-mod tests;
 
 /// How the top call ended.
 #[derive(Drop)]
@@ -139,6 +136,8 @@ where
         → IfErr result (NeverBegan left (refused_since (M.refused maker.old) (M.refused maker.new))) }
     ensures none_refused { OnOk result (M.refused maker.new ≡ M.refused maker.old) }
     ensures not_read { IfErr result (λ status. status ≡ Status.ReadFault → ⊥) }
+    ensures made { IfErr result (λ status. RefusedBy status
+        (refused_since (M.refused maker.old) (M.refused maker.new))) }
 {
     let Script { heads, clients } = script;
     match make_heads(alloc, heads, maker) {
@@ -162,6 +161,8 @@ where
     ensures none_refused { OnOk result (M.refused maker.new ≡ M.refused maker.old) }
     ensures end { IfOk result (λ _. IsAtEnd (S.left source.new)) }
     ensures fault { IfErr result (NeverBegan (S.left source.old)
+        (refused_since (M.refused maker.old) (M.refused maker.new))) }
+    ensures made { IfErr result (λ status. RefusedBy status
         (refused_since (M.refused maker.old) (M.refused maker.new))) }
     ensures read { IfErr result (λ status. status ≡ Status.ReadFault
         → Rose (S.faults source.old) (S.faults source.new)) }
@@ -210,6 +211,8 @@ where
         → (Rose (W.faults sink) (W.faults result.sink) → ⊥)
         → CanEndSo (S.left source.old)
         (refused_since (M.refused maker.old) (M.refused maker.new)) result.status }
+    ensures made { RefusedBy result.status
+        (refused_since (M.refused maker.old) (M.refused maker.new)) }
     ensures none_refused { Answered result.status → M.refused maker.new ≡ M.refused maker.old }
     ensures source_later { S.faults source.old ≤ S.faults source.new }
     ensures sink_later { W.faults sink ≤ W.faults result.sink }
@@ -258,9 +261,11 @@ where
       refused = refused_since (M.refused maker) (M.refused result.maker);
     })) }
 
-    // Usage exactly where the words are not those of the program; then nothing is read and nothing answered.
+    // Usage exactly where the words are not those of the program; then nothing is read, nothing
+    // answered and no expression made.
     ensures usage { (result.status ≡ 2) ↔ (is_serve (map string_bytes words.now) ≡ false) }
-    ensures unread { result.status ≡ 2 → (result.source ≡ source) × (result.sink ≡ sink) }
+    ensures unread { result.status ≡ 2
+        → (result.source ≡ source) × (result.sink ≡ sink) × (result.maker ≡ maker) }
 
     // A fault only where a count of faults rose. Counts never fall.
     ensures read { result.status ≡ 7 → Rose (S.faults source) (S.faults result.source) }

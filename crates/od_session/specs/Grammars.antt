@@ -1,9 +1,10 @@
 -- The grammars of a script's heads, one after another.
-use Rattle.std.specs.Prelude.{◌≡◌, ℕ, ◌-◌, List, [], ◌∷◌, ◌++◌, length, fold, Option, Some, None, Ok, Err, IsSome, Bool, not, if◌then◌else◌}
+use Rattle.std.specs.Prelude.{◌≡◌, ◌⊎◌, ℕ, ◌-◌, List, [], ◌∷◌, ◌++◌, length, fold, Option, Some, None, Ok, Err, IsSome, Bool, not, if◌then◌else◌}
 use Rattle.od_pattern.specs.declared.grammar.Head.{Head}
 use Rattle.od_pattern.specs.declared.grammar.GrammarKind.{GrammarKind}
 use Rattle.od_pattern.specs.declared.grammar.Grammar.{Grammar}
 use Rattle.od_rule_text.specs.declared.grammar_fault.GrammarFault.{GrammarFault}
+use Rattle.od_rule_text.specs.declared.grammar_fault.GrammarFault.TheVariants.{RegexRefused}
 use Rattle.od_rule_text.specs.declared.limits.TheConstants.{GRAMMAR_EXPRESSIONS}
 use Rattle.od_rule_text.specs.Expressions.{body_expressions, expressions_of}
 use Rattle.od_rule_text.specs.Grammars.{Answer}
@@ -54,7 +55,18 @@ AreRead heads = IsSome (heads_read heads)
 abbrev pub accepts_all_but : List (List ℕ) → List ℕ → Bool
 accepts_all_but refused expression = not (is_among refused expression)
 
--- the first head whose grammar cannot be made where a maker refused these expressions, and why
+-- the fault tells an expression that was refused
+abbrev pub TellsRefusal : GrammarFault → Type 0
+TellsRefusal (RegexRefused rule number) = Unit {0}
+TellsRefusal fault = ⊥
+
+-- a maker refused nothing, or one expression alone, which the fault tells
+abbrev pub RefusedAsTold : GrammarFault → List (List ℕ) → Type 0
+RefusedAsTold fault refused =
+    (refused ≡ []) ⊎ ((expression : List ℕ) × (refused ≡ expression ∷ []) × TellsRefusal fault)
+
+-- the first head whose grammar cannot be made where a maker refused these expressions, and why:
+-- the texts of the earlier heads are grammars, and of their expressions none was refused
 pub record IsFirstRefused (refused : List (List ℕ)) (heads : List Head) (head : Head) (fault : GrammarFault) : Type 0 where
   pub front : List Head
   pub rest : List Head
@@ -62,3 +74,4 @@ pub record IsFirstRefused (refused : List (List ℕ)) (heads : List Head) (head 
   pub seen : List (List ℕ)
   pub front_read : heads_read front ≡ Some seen
   pub fault_is : grammar_made (accepts_all_but refused) head.kind head.text (room_with seen) ≡ Err fault
+  pub told : RefusedAsTold fault refused

@@ -2,8 +2,8 @@
 ghost use Rattle.std.specs.Prelude.{◌≡◌, ◌++◌, map, IfOk, OnOk, option_map};
 ghost use Rattle.serde_json.specs.Data.{array};
 ghost use Rattle.serde_json.specs.View.{view, items_of, members_view};
-ghost use Rattle.od_command.specs.Lines.Data.{count, with_members};
-ghost use Rattle.od_command.specs.Lines.Entries.{name_of, entry_members, reply_members, own_line};
+ghost use Rattle.od_line.specs.Data.{count, with_members};
+ghost use Rattle.od_line.specs.Entries.{name_of, entry_members, reply_members, own_line};
 
 use crate::lines::members::{Members, put_count, put_word};
 use crate::lines::names::{command_name, reply_name, state_name};

@@ -2,7 +2,7 @@
 ghost use Rattle.std.specs.Prelude.{◌≡◌, OnOk};
 ghost use Rattle.serde_json.specs.Data.{put as with_member};
 ghost use Rattle.serde_json.specs.View.{members_view};
-ghost use Rattle.od_command.specs.Lines.Data.{count, word};
+ghost use Rattle.od_line.specs.Data.{count, word};
 
 use serde_json::{Map, Value, put};
 use std::alloc::{AllocError, Global};

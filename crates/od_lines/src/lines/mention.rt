@@ -3,8 +3,8 @@
 ghost use Rattle.std.specs.Prelude.{◌≡◌, ◌<◌, ◌++◌, map, flat_map, codes, IfOk, OnOk};
 ghost use Rattle.serde_json.specs.Data.{array};
 ghost use Rattle.serde_json.specs.View.{items_of};
-ghost use Rattle.od_command.specs.Lines.Data.{count, word, word_or_null};
-ghost use Rattle.od_command.specs.Lines.Mentions.{text_in, part_data, mention_data, line_in, mention_line};
+ghost use Rattle.od_line.specs.Data.{count, word, word_or_null};
+ghost use Rattle.od_line.specs.Mentions.{text_in, part_data, mention_data, line_in, mention_line};
 ghost use Rattle.od_extraction.specs.Joined.{joined};
 ghost use Rattle.od_lines.specs.Tokens.{member_tokens, value_tokens};
 ghost use Rattle.od_lines.specs.Words.{tokens_of};

@@ -1,6 +1,6 @@
 //! The names of commands, replies, states and faults in output lines.
 ghost use Rattle.std.specs.Prelude.{◌≡◌};
-ghost use Rattle.od_command.specs.Lines.Names.{command_text, state_text, kind_text, refusal_text, reply_text};
+ghost use Rattle.od_line.specs.Names.{command_text, state_text, kind_text, refusal_text, reply_text};
 
 use od_command::history::{Command, Refusal, Reply};
 use od_document::conllu::ConlluKind;

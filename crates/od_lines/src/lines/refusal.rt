@@ -1,8 +1,8 @@
 //! What the line of a refused command adds.
 ghost use Rattle.std.specs.Prelude.{◌≡◌, OnOk};
 ghost use Rattle.serde_json.specs.View.{members_view};
-ghost use Rattle.od_command.specs.Lines.Data.{with_members};
-ghost use Rattle.od_command.specs.Lines.Entries.{refusal_members};
+ghost use Rattle.od_line.specs.Data.{with_members};
+ghost use Rattle.od_line.specs.Entries.{refusal_members};
 
 use crate::lines::members::{Members, put_count, put_total, put_word};
 use crate::lines::names::kind_name;

@@ -1,6 +1,6 @@
 //! The text of a span of tokens.
 ghost use Rattle.std.specs.Prelude.{◌≡◌, ◌<◌, ◌≤◌, length, IsSomeAnd, IfOk, slice_get, string_bytes};
-ghost use Rattle.od_command.specs.Lines.Mentions.{text_in};
+ghost use Rattle.od_line.specs.Mentions.{text_in};
 ghost use Rattle.od_lines.specs.Words.{tokens_of};
 
 use od_pattern::pattern::Field;

@@ -15,7 +15,7 @@ use Rattle.od_session.specs.Grammars.{grammar_of}
 use Rattle.od_matching.specs.Rounds.Round.{round, rounds, one_more, with_found}
 use Rattle.od_matching.specs.Rounds.Phases.{phase, greatest_first}
 use Rattle.od_command.specs.declared.history.Entry.{Entry}
-use Rattle.od_command.specs.Lines.Mentions.{mention_line, line_in}
+use Rattle.od_line.specs.Mentions.{mention_line, line_in}
 use Rattle.od_session.specs.declared.object.OneThread.{OneThread}
 use Rattle.od_text.specs.Lists.{Each, EachPoint}
 use Rattle.od_text.proofs.Lists.{EachPoint-at}

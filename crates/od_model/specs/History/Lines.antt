@@ -12,8 +12,8 @@ use Rattle.od_session.specs.declared.object.OneThread.{OneThread}
 use Rattle.od_text.specs.Lists.{points}
 use Rattle.od_extraction.specs.Joined.{joined}
 use Rattle.od_session.specs.Parts.{session_of}
-use Rattle.od_command.specs.Lines.Entries.{own_line}
-use Rattle.od_command.specs.Lines.Mentions.{mention_line}
+use Rattle.od_line.specs.Entries.{own_line}
+use Rattle.od_line.specs.Mentions.{mention_line}
 use Rattle.od_model.specs.History.Legal.{state_after}
 
 -- one line for each mention of a session, in the order in which the rounds added them

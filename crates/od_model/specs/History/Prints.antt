@@ -19,7 +19,7 @@ use Rattle.od_matching.specs.Rounds.Round.{rounds}
 use Rattle.od_extraction.specs.Joined.{joined}
 use Rattle.od_matching.specs.Rounds.Phases.{phase, greatest_first}
 use Rattle.od_session.specs.Parts.{head_of, session_of}
-use Rattle.od_command.specs.Lines.Mentions.{mention_line}
+use Rattle.od_line.specs.Mentions.{mention_line}
 use Rattle.od_model.specs.History.Legal.{state_after}
 use Rattle.od_model.specs.History.Lines.{lines_before}
 

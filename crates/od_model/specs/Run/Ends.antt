@@ -1,9 +1,10 @@
 -- How the top call may end.
-use Rattle.std.specs.Prelude.{◌≡◌, ℕ, List, Option}
+use Rattle.std.specs.Prelude.{◌≡◌, ℕ, List, [], Option}
 use Rattle.od_model.specs.declared.status.Status.{Status}
 use Rattle.od_model.specs.declared.status.Status.TheVariants.{Done, Refused, Usage, NoScript, BadGrammar, ReadFault, WriteFault, NoMemory}
 use Rattle.od_model.specs.Run.Outcome.{IsNoScript, HasBadGrammar}
 use Rattle.od_model.specs.Run.Words.{exit_status}
+use Rattle.od_session.specs.Grammars.{RefusedAsTold}
 
 -- every command was answered
 abbrev pub Answered : Status → Type 0
@@ -28,6 +29,11 @@ CanEndSo left refused (BadGrammar name fault) = HasBadGrammar name fault left re
 CanEndSo left refused ReadFault = ⊥
 CanEndSo left refused WriteFault = ⊥
 CanEndSo left refused NoMemory = Unit {0}
+
+-- what the maker refused: the expression that a status tells, and nothing else
+abbrev pub RefusedBy : Status → List (List ℕ) → Type 0
+RefusedBy (BadGrammar name fault) refused = RefusedAsTold fault refused
+RefusedBy status refused = refused ≡ []
 
 -- the exit status is that of a way to end of which P holds
 abbrev pub HasStatus : ℕ → (Status → Type 0) → Type 0

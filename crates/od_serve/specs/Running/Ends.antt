@@ -7,7 +7,7 @@ use Rattle.od_io.specs.declared.streams.Failed.{Failed}
 use Rattle.od_io.specs.Streams.Count.{Rose}
 use Rattle.od_io.specs.Streams.Writing.{AppendsUpToFault}
 use Rattle.od_session.specs.Parts.{nothing}
-use Rattle.od_model.specs.Run.Ends.{CanEndSo}
+use Rattle.od_model.specs.Run.Ends.{CanEndSo, RefusedBy}
 use Rattle.od_model.specs.Run.Outcome.{Outcome, Outside, IsNoScript, HasBadGrammar}
 use Rattle.od_model.specs.Run.Words.{diagnostic}
 
@@ -69,3 +69,5 @@ pub record Ends (status : Status) (history : List Entry) (around : Around) : Typ
   -- with the word `serve`, and where no read and no write failed, it may end so
   pub complete : around.served ≡ true → (Rose around.read_faults around.read_faults_now → ⊥)
       → (Rose around.write_faults around.write_faults_now → ⊥) → CanEndSo around.left around.refused status
+  -- the maker refused nothing, but for an expression that the status tells
+  pub made : RefusedBy status around.refused

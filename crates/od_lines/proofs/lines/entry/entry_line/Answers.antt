@@ -3,8 +3,8 @@ use Rattle.serde_json.specs.Data.{object, no_members}
 use Rattle.serde_json.specs.View.{members_view}
 use Rattle.serde_json.specs.Written.{has_float, compact_text}
 use Rattle.serde_json.proofs.Views.{view-Object}
-use Rattle.od_command.specs.Lines.Data.{with_members}
-use Rattle.od_command.specs.Lines.Entries.{entry_members, reply_members, own_line}
+use Rattle.od_line.specs.Data.{with_members}
+use Rattle.od_line.specs.Entries.{entry_members, reply_members, own_line}
 use Rattle.od_lines.proofs.LineFloats.{with_members-append, entry_plain}
 use Rattle.od_lines.proofs.lines.entry.entry_line.Goals as goal
 

@@ -2,8 +2,8 @@ use Rattle.std.proofs.Common.{codes, ap, ◌∙◌}
 use Rattle.std.proofs.lemmas.Result.{on_ok_weaker}
 use Rattle.serde_json.specs.Data.{put}
 use Rattle.serde_json.specs.View.{members_view}
-use Rattle.od_command.specs.Lines.Data.{count, word}
-use Rattle.od_command.specs.Lines.Names.{state_text}
+use Rattle.od_line.specs.Data.{count, word}
+use Rattle.od_line.specs.Names.{state_text}
 use Rattle.od_lines.proofs.lines.entry.put_reply.Goals as goal
 
 pub returns-in_ok-put_count-in-Printed-2 : goal.returns-in_ok-put_count-in-Printed-2

@@ -1,6 +1,6 @@
 use Rattle.std.proofs.Common.{◌≡◌, map, take}
 use Rattle.serde_json.specs.View.{view}
-use Rattle.od_command.specs.Lines.Data.{count}
+use Rattle.od_line.specs.Data.{count}
 use Rattle.od_lines.proofs.lines.entry.sizes_value.Given as goal
 
 -- the list has the sizes before the next one

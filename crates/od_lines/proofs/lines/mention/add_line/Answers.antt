@@ -1,7 +1,7 @@
 use Rattle.std.proofs.Common.{◌≡◌, ◌++◌, List, ap, ◌∙◌}
 use Rattle.od_document.specs.declared.token.Token.{Token}
-use Rattle.od_command.specs.Lines.Data.{line_of}
-use Rattle.od_command.specs.Lines.Mentions.{mention_data, tokens_in}
+use Rattle.od_line.specs.Data.{line_of}
+use Rattle.od_line.specs.Mentions.{mention_data, tokens_in}
 use Rattle.od_lines.specs.Words.{tokens_of}
 use Rattle.od_lines.proofs.LineTokens.{line-added}
 use Rattle.od_lines.proofs.LineWords.{same_tokens}

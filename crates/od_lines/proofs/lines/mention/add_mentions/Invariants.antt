@@ -1,5 +1,5 @@
 use Rattle.std.proofs.Common.{◌≡◌, ◌++◌, take, flat_map}
-use Rattle.od_command.specs.Lines.Mentions.{mention_line}
+use Rattle.od_line.specs.Mentions.{mention_line}
 use Rattle.od_lines.proofs.lines.mention.add_mentions.Given as goal
 
 -- the lines of the mentions before the next one stand

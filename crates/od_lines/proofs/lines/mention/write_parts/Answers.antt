@@ -1,7 +1,7 @@
 use Rattle.std.proofs.Common.{◌≤◌, length, codes, ap, arith}
 use Rattle.std.proofs.lemmas.Result.{on_ok_weaker}
 use Rattle.std.proofs.lemmas.List.{take_all}
-use Rattle.od_command.specs.Lines.Mentions.{part_data}
+use Rattle.od_line.specs.Mentions.{part_data}
 use Rattle.od_lines.specs.Words.{tokens_of}
 use Rattle.od_lines.proofs.LineTokens.{array-written}
 use Rattle.od_lines.proofs.lines.mention.write_parts.Goals as goal

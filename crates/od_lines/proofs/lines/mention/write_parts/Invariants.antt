@@ -1,7 +1,7 @@
 use Rattle.std.proofs.Common.{◌≡◌, ◌++◌, take, flat_map}
 use Rattle.json.specs.Tree.{json_tokens}
 use Rattle.serde_json.specs.Written.{outline}
-use Rattle.od_command.specs.Lines.Mentions.{part_data}
+use Rattle.od_line.specs.Mentions.{part_data}
 use Rattle.od_lines.specs.Words.{tokens_of}
 use Rattle.od_lines.proofs.lines.mention.write_parts.Given as goal
 

@@ -1,7 +1,7 @@
 use Rattle.std.proofs.Common.{codes, ap, ◌∙◌}
 use Rattle.std.proofs.lemmas.Result.{on_ok_weaker}
 use Rattle.serde_json.specs.Data.{put}
-use Rattle.od_command.specs.Lines.Data.{count}
+use Rattle.od_line.specs.Data.{count}
 use Rattle.od_lines.proofs.lines.refusal.put_refusal.Goals as goal
 
 pub returns-in_ok-put_count-in-Crowded-3 : goal.returns-in_ok-put_count-in-Crowded-3

@@ -1,6 +1,6 @@
 use Rattle.std.proofs.Common.{◌≡◌, ℕ, ◌∷◌, ◌++◌, ◌+◌, ◌-◌, ◌<◌, [], append_assoc, take, drop, map, string_bytes, sym, ap, ◌∙◌, arith}
 use Rattle.std.specs.List.{join_with_byte}
-use Rattle.od_command.specs.Lines.Mentions.{text_in}
+use Rattle.od_line.specs.Mentions.{text_in}
 use Rattle.od_lines.proofs.LineWords.{first_word, next_word}
 use Rattle.od_lines.proofs.lines.words.joined_words.Goals as goal
 use Rattle.od_lines.proofs.lines.words.joined_words.Goals.{then-token-start+in_ok-push, else-token-start}

@@ -1,5 +1,5 @@
 use Rattle.std.proofs.Common.{◌≡◌, ◌-◌, ◌≤◌, string_bytes}
-use Rattle.od_command.specs.Lines.Mentions.{text_in}
+use Rattle.od_line.specs.Mentions.{text_in}
 use Rattle.od_lines.proofs.lines.words.joined_words.Given as goal
 
 -- the words before the next one stand, and none behind the end

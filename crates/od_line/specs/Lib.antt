@@ -1,3 +1,4 @@
+-- The definitions of this crate.
 pub mod Data
 pub mod Entries
 pub mod Mentions

@@ -9,8 +9,8 @@ use Rattle.od_command.specs.declared.history.Reply.TheVariants.{Added, Opened, S
 use Rattle.od_command.specs.declared.history.Refusal.{Refusal}
 use Rattle.od_command.specs.declared.history.Refusal.TheVariants.{BadDoc, Duplicate, Full, NoGrammar, BadLimit, Taken, NoRoom, NoSession, Busy, NotHeld, Finished, AtLimit, Crowded, TooMany}
 use Rattle.od_command.specs.declared.history.Entry.{Entry}
-use Rattle.od_command.specs.Lines.Data.{count, word, object_of, line_of}
-use Rattle.od_command.specs.Lines.Names.{command_text, state_text, kind_text, reply_text}
+use Rattle.od_line.specs.Data.{count, word, object_of, line_of}
+use Rattle.od_line.specs.Names.{command_text, state_text, kind_text, reply_text}
 
 -- the document or session that a command names
 abbrev pub name_of : Command → Option (List ℕ)

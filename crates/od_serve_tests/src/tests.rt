@@ -1,8 +1,8 @@
 //! The top call over sources and sinks in memory.
-use super::{Ended, odinson};
 use od_command::history::{Command, Refusal, Reply};
 use od_heads::make_heads;
-use od_io::{MemSink, MemSource, RegexMaker};
+use od_io::{FailMaker, MemSink, MemSource, RegexMaker};
+use od_serve::{Ended, odinson};
 use od_text::list::List;
 use od_text::text::{Bytes, NoMemory, Text};
 use od_workspace::workspace::Workspace;
@@ -85,10 +85,31 @@ fn a_sink_takes_what_it_has_room_for(rt: HostRuntime) {
     for room in 0..LINES.len() {
         given.room = room;
         let ended = run(rt.alloc(), &given).expect(&rt, "memory");
-        assert_eq!(rt; ended.status, 8);
-        assert!(rt; ended.sink.written() == &LINES[..room]);
-        assert!(rt; ended.diag.written() == WRITE_FAULT);
+        assert_eq!(rt; ended.status, 8, "with room for {room} bytes");
+        assert!(rt;
+            ended.sink.written() == &LINES[..room],
+            "with room for {room} bytes"
+        );
+        assert!(rt;
+            ended.diag.written() == WRITE_FAULT,
+            "with room for {room} bytes"
+        );
+        // The whole lines of four entries, and then a print's: the entry that is cut short counts.
+        let whole = LINES[..room].iter().filter(|byte| **byte == b'\n').count();
+        let answered = whole.min(4) + 1;
+        assert_eq!(rt; ended.history.len(), answered, "with room for {room} bytes");
     }
+}
+
+#[test]
+fn the_whole_output_has_room(rt: HostRuntime) {
+    let mut given = serving(rt.alloc(), EXAMPLE).expect(&rt, "memory");
+    given.room = LINES.len();
+    let ended = run(rt.alloc(), &given).expect(&rt, "memory");
+    assert_eq!(rt; ended.status, 0);
+    assert!(rt; ended.sink.written() == LINES);
+    assert!(rt; ended.diag.written().is_empty());
+    assert_eq!(rt; ended.history.len(), 5);
 }
 
 #[test]
@@ -197,6 +218,34 @@ fn scripts_are_answered(rt: HostRuntime) -> Result<(), Fail> {
             lines: b"{\"call\":1,\"caller\":1,\"command\":\"doc\",\"documents\":1,\"name\":\"d\",\"reply\":\"ok\"}\n{\"call\":2,\"caller\":1,\"command\":\"open\",\"documents\":1,\"limit\":1,\"name\":\"s\",\"reply\":\"ok\"}\n{\"added\":1,\"call\":3,\"caller\":1,\"command\":\"step\",\"name\":\"s\",\"reply\":\"ok\",\"round\":1,\"state\":\"limit\"}\n{\"arguments\":[{\"end\":1,\"label\":null,\"name\":\"who\",\"start\":0,\"text\":\"Dogs\"}],\"document\":\"d\",\"end\":1,\"label\":\"Query\",\"rule\":\"query\",\"sentence\":0,\"session\":\"s\",\"start\":0,\"text\":\"Dogs\"}\n{\"call\":4,\"caller\":1,\"command\":\"print\",\"mentions\":1,\"name\":\"s\",\"reply\":\"ok\",\"round\":1,\"state\":\"limit\"}\n",
             said: b"",
         },
+        // A session over no document has one round, which finds nothing.
+        Case {
+            script: b"query q a\nclient\nopen s q 5\nrun s\nprint s\n",
+            status: 0,
+            lines: b"{\"call\":1,\"caller\":1,\"command\":\"open\",\"documents\":0,\"limit\":5,\"name\":\"s\",\"reply\":\"ok\"}\n{\"added\":0,\"call\":2,\"caller\":1,\"command\":\"step\",\"name\":\"s\",\"reply\":\"ok\",\"round\":1,\"state\":\"finished\"}\n{\"call\":3,\"caller\":1,\"command\":\"print\",\"mentions\":0,\"name\":\"s\",\"reply\":\"ok\",\"round\":1,\"state\":\"finished\"}\n",
+            said: b"",
+        },
+        // A rule whose mentions feed it: of four words each is found, then two pairs, then the first
+        // three. The third round is the last that the session may have.
+        Case {
+            script: b"grammar g 11\nrules:\n- name: one\n  label: P\n  type: basic\n  priority: 1\n  pattern: a\n- name: more\n  label: P\n  type: basic\n  priority: 2+\n  pattern: \"@P a\"\nclient\ndoc d 4\n1\ta\t_\t_\t_\t_\t_\t_\t_\t_\n2\ta\t_\t_\t_\t_\t_\t_\t_\t_\n3\ta\t_\t_\t_\t_\t_\t_\t_\t_\n4\ta\t_\t_\t_\t_\t_\t_\t_\t_\nopen s g 3\nrun s\nstep s\n",
+            status: 1,
+            lines: b"{\"call\":1,\"caller\":1,\"command\":\"doc\",\"documents\":1,\"name\":\"d\",\"reply\":\"ok\"}\n{\"call\":2,\"caller\":1,\"command\":\"open\",\"documents\":1,\"limit\":3,\"name\":\"s\",\"reply\":\"ok\"}\n{\"added\":4,\"call\":3,\"caller\":1,\"command\":\"step\",\"name\":\"s\",\"reply\":\"ok\",\"round\":1,\"state\":\"going\"}\n{\"added\":2,\"call\":4,\"caller\":1,\"command\":\"step\",\"name\":\"s\",\"reply\":\"ok\",\"round\":2,\"state\":\"going\"}\n{\"added\":1,\"call\":5,\"caller\":1,\"command\":\"step\",\"name\":\"s\",\"reply\":\"ok\",\"round\":3,\"state\":\"limit\"}\n{\"call\":6,\"caller\":1,\"command\":\"step\",\"name\":\"s\",\"reply\":\"AtLimit\",\"round\":3}\n",
+            said: b"",
+        },
+        // A rule that no round before the second runs: the first finds nothing and does not end it.
+        Case {
+            script: b"grammar g 6\nrules:\n- name: late\n  label: P\n  type: basic\n  priority: 2\n  pattern: a\nclient\ndoc d 1\n1\ta\t_\t_\t_\t_\t_\t_\t_\t_\nopen s g 5\nrun s\n",
+            status: 0,
+            lines: b"{\"call\":1,\"caller\":1,\"command\":\"doc\",\"documents\":1,\"name\":\"d\",\"reply\":\"ok\"}\n{\"call\":2,\"caller\":1,\"command\":\"open\",\"documents\":1,\"limit\":5,\"name\":\"s\",\"reply\":\"ok\"}\n{\"added\":0,\"call\":3,\"caller\":1,\"command\":\"step\",\"name\":\"s\",\"reply\":\"ok\",\"round\":1,\"state\":\"going\"}\n{\"added\":1,\"call\":4,\"caller\":1,\"command\":\"step\",\"name\":\"s\",\"reply\":\"ok\",\"round\":2,\"state\":\"going\"}\n{\"added\":0,\"call\":5,\"caller\":1,\"command\":\"step\",\"name\":\"s\",\"reply\":\"ok\",\"round\":3,\"state\":\"finished\"}\n",
+            said: b"",
+        },
+        // The first grammar that cannot be made is told, also where a later one's text is none.
+        faulty(
+            4,
+            b"query q /(/\nquery r [colour=x]\nclient\n",
+            b"odinson: grammar q: RegexRefused rule 1 number 1\n",
+        ),
         // The second grammar is not accepted, nor is the third.
         faulty(
             4,
@@ -265,9 +314,66 @@ fn scripts_are_answered(rt: HostRuntime) -> Result<(), Fail> {
     ];
     for case in &cases {
         let ended = served(rt.alloc(), case.script)?;
-        assert_eq!(rt; ended.status, case.status);
-        assert!(rt; ended.sink.written() == case.lines);
-        assert!(rt; ended.diag.written() == case.said);
+        assert_eq!(rt; ended.status, case.status, "to {:?}", case.script);
+        assert!(rt; ended.sink.written() == case.lines, "to {:?}", case.script);
+        assert!(rt; ended.diag.written() == case.said, "to {:?}", case.script);
+    }
+    Ok(())
+}
+
+/// What is said of a script whose maker refuses one call, numbered from 0.
+fn said_with_a_refusal(
+    alloc: Global,
+    script: &[u8],
+    call: u32,
+) -> Result<Ended<MemSource, MemSink, MemSink, FailMaker<RegexMaker>>, NoMemory> {
+    let words = words_of(alloc, &["serve"])?;
+    let source = MemSource::new(Bytes::from_slice(alloc, script)?, Vec::new(alloc));
+    let sink = MemSink::new(alloc, 1000)?;
+    let diag = MemSink::new(alloc, 1000)?;
+    let mut failing = Vec::new(alloc);
+    failing.push(call)?;
+    let maker = FailMaker::new(alloc, RegexMaker::new(alloc), failing);
+    Ok(odinson(alloc, words.as_slice(), source, sink, diag, maker))
+}
+
+/// Expressions are made head by head, and in the order of a head's text; one that two heads share is
+/// made for each of them.
+#[test]
+fn a_refused_expression_is_told(rt: HostRuntime) -> Result<(), Fail> {
+    let shared = b"query q /a/\nquery r /a/\nclient\n".as_slice();
+    let several = b"query q /a/ [tag=/b/] >/c/ /a/\nclient\n".as_slice();
+    let rows: [(&[u8], u32, &[u8]); 5] = [
+        (
+            shared,
+            0,
+            b"odinson: grammar q: RegexRefused rule 1 number 1\n",
+        ),
+        (
+            shared,
+            1,
+            b"odinson: grammar r: RegexRefused rule 1 number 1\n",
+        ),
+        (
+            several,
+            0,
+            b"odinson: grammar q: RegexRefused rule 1 number 1\n",
+        ),
+        (
+            several,
+            1,
+            b"odinson: grammar q: RegexRefused rule 1 number 2\n",
+        ),
+        (
+            several,
+            2,
+            b"odinson: grammar q: RegexRefused rule 1 number 3\n",
+        ),
+    ];
+    for (script, call, said) in rows {
+        let ended = said_with_a_refusal(rt.alloc(), script, call)?;
+        assert_eq!(rt; ended.status, 4, "call {call} of {script:?}");
+        assert!(rt; ended.diag.written() == said, "call {call} of {script:?}");
     }
     Ok(())
 }
@@ -319,7 +425,7 @@ fn what_is_too_much_is_refused(rt: HostRuntime) -> Result<(), Fail> {
     let ended = served(rt.alloc(), script.as_bytes())?;
     assert_eq!(rt; ended.status, 1);
     for line in &AT_LIMITS {
-        assert!(rt; has_line(ended.sink.written(), line));
+        assert!(rt; has_line(ended.sink.written(), line), "{line:?}");
     }
     Ok(())
 }
@@ -360,7 +466,7 @@ fn there_is_room_for_100000_documents(rt: HostRuntime) -> Result<(), Fail> {
             documents: 100000,
             bytes: 2400000,
         });
-        assert_eq!(rt; refusal, full);
+        assert_eq!(rt; refusal, full, "document {number}");
     }
     Ok(())
 }
@@ -374,7 +480,7 @@ fn there_is_room_for_128_mebibytes(rt: HostRuntime) -> Result<(), Fail> {
     large.extend_from_slice(BARK)?;
     for number in 0..128 {
         let refusal = refused(&mut workspace, rt.alloc(), number, &large)?;
-        assert_eq!(rt; refusal, None);
+        assert_eq!(rt; refusal, None, "document {number}");
     }
     let refusal = refused(&mut workspace, rt.alloc(), 128, BARK)?;
     let full = Refusal::Full {

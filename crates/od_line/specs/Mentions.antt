@@ -8,7 +8,7 @@ use Rattle.od_document.specs.declared.sentence.Sentence.{Sentence}
 use Rattle.od_document.specs.declared.doc.Doc.{Doc}
 use Rattle.od_extraction.specs.declared.mention.Part.{Part}
 use Rattle.od_extraction.specs.declared.mention.Mention.{Mention}
-use Rattle.od_command.specs.Lines.Data.{count, word, word_or_null, object_of, line_of}
+use Rattle.od_line.specs.Data.{count, word, word_or_null, object_of, line_of}
 
 -- the words of a span, joined by one space
 abbrev pub text_in : List Token → ℕ → ℕ → List ℕ
