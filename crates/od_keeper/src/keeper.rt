@@ -2,7 +2,8 @@
 ghost use Rattle.std.specs.Prelude.{◌≡◌, ◌⊎◌, ℕ, ◌-◌, ◌^◌, ◌<◌, ◌≤◌, IfOk, OnOk, IsErrOf};
 ghost use Rattle.od_io.specs.Streams.Count.{Rose};
 ghost use Rattle.od_row.specs.declared.rows.Rows.{Rows as TheRows};
-ghost use Rattle.od_keeper.specs.Kept.{with_doc, with_session, with_round, FindsOnly};
+ghost use Rattle.od_row.specs.More.{with_doc, with_session, with_round};
+ghost use Rattle.od_keeper.specs.Kept.{FindsOnly};
 ghost use Rattle.od_keeper.specs.declared.keeper.KeepFault.TheVariants.{Failed, NoMemory};
 
 use od_row::rows::{DocRow, RoundRow, Rows, SessionRow};
@@ -42,7 +43,8 @@ pub trait Keeper {
     /// These rows may be found where it is opened again.
     ghost may_find: { Self → TheRows → Type 0 };
 
-    /// What it stands on gives back what was written, so far. A call may end this, and none restores it.
+    /// What it stands on gives back what was written, so far. A call may end this, and none
+    /// restores it.
     ghost is_honest: { Self → Type 0 };
 
     /// How many calls failed. The count stays at 2^64 - 1.
@@ -121,5 +123,6 @@ pub trait Keeper {
     ghost passes: { (k : Self) (rows : TheRows) → tells k rows → may_find k rows };
 
     /// It tells of one list of rows at most.
-    ghost told_once: { (k : Self) (rows other : TheRows) → tells k rows → tells k other → rows ≡ other };
+    ghost told_once: { (k : Self) (rows other : TheRows) → tells k rows → tells k other
+        → rows ≡ other };
 }

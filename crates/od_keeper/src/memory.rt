@@ -1,9 +1,7 @@
 //! A keeper in memory, whose faults are chosen.
-ghost use Rattle.std.specs.Prelude.{◌≡◌, ◌⊎◌, ℕ, [], ◌∷◌, ◌++◌, ◌-◌, ◌^◌, ◌<◌, ◌≤◌, ◌↔◌, IfOk, OnOk, IsOk, IsErrOf, MatchOption, option_map, is_some, IsTrue, None, Some};
+ghost use Rattle.std.specs.Prelude.{◌≡◌, [], ◌∷◌, ◌++◌, ◌-◌, ◌^◌, ◌<◌, ◌≤◌, OnOk, IsErrOf, option_map, None, Some, Bool, if◌then◌else◌};
 ghost use Rattle.od_io.specs.Streams.Count.{Rose, count_up};
-ghost use Rattle.od_row.specs.declared.rows.Rows.{Rows as TheRows};
-ghost use Rattle.od_keeper.specs.Kept.{with_doc, with_session, with_round, FindsOnly};
-ghost use Rattle.std.specs.Prelude.{Bool, if◌then◌else◌};
+ghost use Rattle.od_row.specs.More.{with_doc, with_session, with_round};
 ghost use Rattle.od_keeper.specs.Memory.{listed, is_failed};
 ghost use Rattle.od_keeper.specs.declared.keeper.KeepFault.TheVariants.{Failed, NoMemory};
 
@@ -40,7 +38,13 @@ impl Model for MemKeeper {
 
     ghost Value = { MemoryState };
 
-    ghost view = { λ k. record { rows = k.rows; puts = k.puts; failing = k.failing.items; calls = k.calls.items; faults = k.faults.count } };
+    ghost view = { λ k. record {
+      rows = k.rows;
+      puts = k.puts;
+      failing = k.failing.items;
+      calls = k.calls.items;
+      faults = k.faults.count;
+    } };
 }
 
 /// How the put of this number fails, where it does.
@@ -51,9 +55,16 @@ fn listed(failing: &[(u32, bool)], put: u64) -> Option<bool>
 }
 
 impl MemKeeper {
-    /// A keeper of these rows. Those of its puts fail that `failing` lists, numbered from 0, each with whether its row is kept.
+    /// A keeper of these rows. Those of its puts fail that `failing` lists, numbered from 0, each
+    /// with whether its row is kept.
     pub fn new(alloc: Global, rows: Rows, failing: Vec<(u32, bool)>) -> MemKeeper
-        ensures { result ≡ record { rows = rows; puts = 0; failing = failing.items; calls = []; faults = 0 } }
+        ensures { result ≡ record {
+          rows = rows;
+          puts = 0;
+          failing = failing.items;
+          calls = [];
+          faults = 0;
+        } }
     {
         MemKeeper {
             rows,
@@ -86,13 +97,15 @@ impl MemKeeper {
             × (self.new.rows ≡ with_doc self.old.rows row.now)) }
         ensures failed { IsErrOf result Failed → (kept : Bool)
             × (option_map (λ f. f.1) (listed self.old.failing self.old.puts) ≡ Some kept)
-            × (self.new.rows ≡ (if kept then with_doc self.old.rows row.now else self.old.rows)) }
+            × (self.new.rows
+            ≡ (if kept then with_doc self.old.rows row.now else self.old.rows)) }
         ensures memory { IsErrOf result NoMemory → self.new ≡ self.old }
         ensures puts { (IsErrOf result NoMemory → ⊥) → self.new.puts ≡ count_up self.old.puts }
         ensures calls { (IsErrOf result NoMemory → ⊥)
             → self.new.calls ≡ self.old.calls ++ KeeperCall.PutDoc ∷ [] }
         ensures failing { self.new.failing ≡ self.old.failing }
-        ensures faults { self.new.faults ≡ (if is_failed result then count_up self.old.faults else self.old.faults) }
+        ensures faults { self.new.faults
+            ≡ (if is_failed result then count_up self.old.faults else self.old.faults) }
         ensures later { self.old.faults ≤ self.new.faults }
         ensures rose { IsErrOf result Failed → Rose self.old.faults self.new.faults }
         ensures last { self.new.faults ≤ 2 ^ 64 - 1 }
@@ -117,13 +130,15 @@ impl MemKeeper {
             × (self.new.rows ≡ with_session self.old.rows row.now)) }
         ensures failed { IsErrOf result Failed → (kept : Bool)
             × (option_map (λ f. f.1) (listed self.old.failing self.old.puts) ≡ Some kept)
-            × (self.new.rows ≡ (if kept then with_session self.old.rows row.now else self.old.rows)) }
+            × (self.new.rows
+            ≡ (if kept then with_session self.old.rows row.now else self.old.rows)) }
         ensures memory { IsErrOf result NoMemory → self.new ≡ self.old }
         ensures puts { (IsErrOf result NoMemory → ⊥) → self.new.puts ≡ count_up self.old.puts }
         ensures calls { (IsErrOf result NoMemory → ⊥)
             → self.new.calls ≡ self.old.calls ++ KeeperCall.PutSession ∷ [] }
         ensures failing { self.new.failing ≡ self.old.failing }
-        ensures faults { self.new.faults ≡ (if is_failed result then count_up self.old.faults else self.old.faults) }
+        ensures faults { self.new.faults
+            ≡ (if is_failed result then count_up self.old.faults else self.old.faults) }
         ensures later { self.old.faults ≤ self.new.faults }
         ensures rose { IsErrOf result Failed → Rose self.old.faults self.new.faults }
         ensures last { self.new.faults ≤ 2 ^ 64 - 1 }
@@ -148,13 +163,15 @@ impl MemKeeper {
             × (self.new.rows ≡ with_round self.old.rows row.now)) }
         ensures failed { IsErrOf result Failed → (kept : Bool)
             × (option_map (λ f. f.1) (listed self.old.failing self.old.puts) ≡ Some kept)
-            × (self.new.rows ≡ (if kept then with_round self.old.rows row.now else self.old.rows)) }
+            × (self.new.rows
+            ≡ (if kept then with_round self.old.rows row.now else self.old.rows)) }
         ensures memory { IsErrOf result NoMemory → self.new ≡ self.old }
         ensures puts { (IsErrOf result NoMemory → ⊥) → self.new.puts ≡ count_up self.old.puts }
         ensures calls { (IsErrOf result NoMemory → ⊥)
             → self.new.calls ≡ self.old.calls ++ KeeperCall.PutRound ∷ [] }
         ensures failing { self.new.failing ≡ self.old.failing }
-        ensures faults { self.new.faults ≡ (if is_failed result then count_up self.old.faults else self.old.faults) }
+        ensures faults { self.new.faults
+            ≡ (if is_failed result then count_up self.old.faults else self.old.faults) }
         ensures later { self.old.faults ≤ self.new.faults }
         ensures rose { IsErrOf result Failed → Rose self.old.faults self.new.faults }
         ensures last { self.new.faults ≤ 2 ^ 64 - 1 }

@@ -1,7 +1,11 @@
 //! A keeper that stops at a put.
-ghost use Rattle.std.specs.Prelude.{◌≡◌, ◌⊎◌, false};
+ghost use Rattle.std.specs.Prelude.{◌≡◌, ◌⊎◌, ◌-◌, ◌<◌, ◌≤◌, true, false, if◌then◌else◌, IsErrOf};
+ghost use Rattle.od_io.specs.Streams.Count.{Rose, count_up};
 ghost use Rattle.od_row.specs.declared.rows.Rows.{Rows as TheRows};
-ghost use Rattle.od_keeper.specs.Kept.{with_doc, with_session, with_round, FindsOnly};
+ghost use Rattle.od_row.specs.More.{with_doc, with_session, with_round};
+ghost use Rattle.od_keeper.specs.Kept.{FindsOnly};
+ghost use Rattle.od_keeper.specs.Memory.{is_failed};
+ghost use Rattle.od_keeper.specs.declared.keeper.KeepFault.TheVariants.{Failed};
 
 use super::count::FaultCount;
 use super::keeper::{KeepFault, Keeper};
@@ -20,11 +24,35 @@ pub struct Stop<K> {
     faults: FaultCount,
 }
 
+/// What becomes of a put.
+#[derive(Clone, Copy, Debug, PartialEq, Eq)]
+enum Passing {
+    /// It is passed on.
+    On,
+    /// It fails, and is the one at which the keeper stops.
+    Last,
+    /// It fails, since the keeper has stopped.
+    Refused,
+}
+
+/// What a call of the inner keeper answered; where it failed, that is counted.
+fn counted<T>(faults: &mut FaultCount, answer: Result<T, KeepFault>) -> Result<T, KeepFault>
+    ensures same { result ≡ answer }
+    ensures count { faults.new.count
+        ≡ (if is_failed answer then count_up faults.old.count else faults.old.count) }
+{
+    if matches!(answer, Err(KeepFault::Failed)) {
+        let _ = faults.failed();
+    }
+    answer
+}
+
 impl<K: Keeper> Stop<K> {
     /// A keeper that passes so many puts on, and fails the next, whose row is kept or not.
     pub fn new(inner: K, passed: u32, kept: bool) -> Stop<K>
         ensures inner { result.inner ≡ inner }
         ensures runs { result.stopped ≡ false }
+        ensures left { result.left ≡ passed }
     {
         Stop {
             inner,
@@ -40,6 +68,26 @@ impl<K: Keeper> Stop<K> {
         ensures { result ≡ self.inner }
     {
         self.inner
+    }
+
+    /// Counts one put, and says what becomes of it.
+    fn next_put(&mut self) -> Passing
+        ensures refused { self.old.stopped ≡ true
+            → (result ≡ Passing.Refused) × (self.new ≡ self.old) }
+        ensures last { self.old.stopped ≡ false → self.old.left ≡ 0
+            → (result ≡ Passing.Last) × (self.new ≡ record self.old { stopped = true }) }
+        ensures on { self.old.stopped ≡ false → 0 < self.old.left
+            → (result ≡ Passing.On) × (self.new ≡ record self.old { left = self.old.left - 1 }) }
+    {
+        if self.stopped {
+            return Passing::Refused;
+        }
+        if self.left == 0 {
+            self.stopped = true;
+            return Passing::Last;
+        }
+        self.left -= 1;
+        Passing::On
     }
 }
 
@@ -60,61 +108,49 @@ impl<K: Keeper> Keeper for Stop<K> {
         if self.stopped {
             return Err(self.faults.failed());
         }
-        match self.inner.load(alloc) {
-            Ok(rows) => Ok(rows),
-            Err(KeepFault::Failed) => Err(self.faults.failed()),
-            Err(KeepFault::NoMemory) => Err(KeepFault::NoMemory),
-        }
+        let rows = self.inner.load(alloc);
+        counted(&mut self.faults, rows)
     }
 
     fn put_doc(&mut self, alloc: Global, row: &DocRow) -> Result<(), KeepFault> {
-        if self.stopped {
-            return Err(self.faults.failed());
-        }
-        if self.left == 0 {
-            self.stopped = true;
-            last_doc(alloc, &mut self.inner, self.kept, row);
-            return Err(self.faults.failed());
-        }
-        self.left -= 1;
-        match self.inner.put_doc(alloc, row) {
-            Ok(()) => Ok(()),
-            Err(KeepFault::Failed) => Err(self.faults.failed()),
-            Err(KeepFault::NoMemory) => Err(KeepFault::NoMemory),
+        match self.next_put() {
+            Passing::Refused => Err(self.faults.failed()),
+            Passing::Last => {
+                last_doc(alloc, &mut self.inner, self.kept, row);
+                Err(self.faults.failed())
+            }
+            Passing::On => {
+                let answer = self.inner.put_doc(alloc, row);
+                counted(&mut self.faults, answer)
+            }
         }
     }
 
     fn put_session(&mut self, alloc: Global, row: &SessionRow) -> Result<(), KeepFault> {
-        if self.stopped {
-            return Err(self.faults.failed());
-        }
-        if self.left == 0 {
-            self.stopped = true;
-            last_session(alloc, &mut self.inner, self.kept, row);
-            return Err(self.faults.failed());
-        }
-        self.left -= 1;
-        match self.inner.put_session(alloc, row) {
-            Ok(()) => Ok(()),
-            Err(KeepFault::Failed) => Err(self.faults.failed()),
-            Err(KeepFault::NoMemory) => Err(KeepFault::NoMemory),
+        match self.next_put() {
+            Passing::Refused => Err(self.faults.failed()),
+            Passing::Last => {
+                last_session(alloc, &mut self.inner, self.kept, row);
+                Err(self.faults.failed())
+            }
+            Passing::On => {
+                let answer = self.inner.put_session(alloc, row);
+                counted(&mut self.faults, answer)
+            }
         }
     }
 
     fn put_round(&mut self, alloc: Global, row: &RoundRow) -> Result<(), KeepFault> {
-        if self.stopped {
-            return Err(self.faults.failed());
-        }
-        if self.left == 0 {
-            self.stopped = true;
-            last_round(alloc, &mut self.inner, self.kept, row);
-            return Err(self.faults.failed());
-        }
-        self.left -= 1;
-        match self.inner.put_round(alloc, row) {
-            Ok(()) => Ok(()),
-            Err(KeepFault::Failed) => Err(self.faults.failed()),
-            Err(KeepFault::NoMemory) => Err(KeepFault::NoMemory),
+        match self.next_put() {
+            Passing::Refused => Err(self.faults.failed()),
+            Passing::Last => {
+                last_round(alloc, &mut self.inner, self.kept, row);
+                Err(self.faults.failed())
+            }
+            Passing::On => {
+                let answer = self.inner.put_round(alloc, row);
+                counted(&mut self.faults, answer)
+            }
         }
     }
 }
