@@ -1,5 +1,5 @@
 -- The entries of sentences, grouped by their numbers, are posting lists.
-use Rattle.std.proofs.Common.{◌≡◌, ℕ, zero, suc, ◌+◌, ◌<◌, ◌≤◌, Bool, true, false, cond, List, [], ◌∷◌, ◌++◌, length, map, filter, fold, flat_map, refl, sym, ◌∙◌, ap, ap₂, subst, arith, inl, inr, append-nil, append_assoc}
+use Rattle.std.proofs.Common.{◌≡◌, ℕ, suc, ◌+◌, ◌<◌, Bool, true, false, cond, List, [], ◌∷◌, ◌++◌, length, map, filter, fold, flat_map, refl, sym, ◌∙◌, ap, ap₂, subst, arith, inl, inr, append-nil, append_assoc}
 use Rattle.std.proofs.lemmas.Bool.{eq-eqb, ne_eqb, eqb-true, and_parts, and_from}
 use Rattle.std.proofs.lemmas.List.{map-append}
 use Rattle.std.proofs.lemmas.List.Elements.{filter-append}
@@ -13,11 +13,11 @@ use Rattle.od_document.specs.declared.token.Token.{Token}
 use Rattle.od_group.specs.Groups.{ends_with, pushed, group_of}
 use Rattle.od_index.proofs.Orders.{one-place}
 use Rattle.od_index.proofs.Tables.{same-place, terms-exact}
-use Rattle.od_index.specs.Postings.{postings, postings_in, posting_lists, stands_at}
+use Rattle.od_index.specs.Postings.{Posting, postings, postings_in, stands_at}
 use Rattle.od_index.specs.Tables.{IsAscending, same_term, term_cmp, field_place}
 use Rattle.od_index.specs.Terms.{Term, terms_at}
 use Rattle.od_pattern.specs.declared.pattern.Field.{Field}
-use Rattle.od_posted.specs.Entries.{AreNumbersOf, AreRows, AreSheets, row_entries, rows_entries, entries_from}
+use Rattle.od_posted.specs.Entries.{Mark, marks_of, marks_at, marks_in, sentence_marks, token_marks}
 use Rattle.od_posted.specs.Laws.{GroupsArePostings}
 
 -- ## Pairs one after another
@@ -59,34 +59,24 @@ pushed-twice acc p = by (ends_with acc p) refl
         ∙ sym more
 
 -- the pairs of the entries with a number
-abbrev picked : ℕ → List (ℕ × (ℕ × ℕ)) → List (ℕ × ℕ)
-picked m es = map (λ (e : ℕ × (ℕ × ℕ)). e.1) (filter (λ (e : ℕ × (ℕ × ℕ)). e.0 == m) es)
+abbrev picked : ℕ → List (ℕ × Posting) → List Posting
+picked m es = map (λ (e : ℕ × Posting). e.1) (filter (λ (e : ℕ × Posting). e.0 == m) es)
 
-picked-append : (m : ℕ) (xs ys : List (ℕ × (ℕ × ℕ))) → picked m (xs ++ ys) ≡ picked m xs ++ picked m ys
-picked-append m xs ys =
-    ap (map (λ (e : ℕ × (ℕ × ℕ)). e.1)) (filter-append (λ (e : ℕ × (ℕ × ℕ)). e.0 == m) xs ys)
-    ∙ map-append (λ (e : ℕ × (ℕ × ℕ)). e.1) (filter (λ (e : ℕ × (ℕ × ℕ)). e.0 == m) xs) (filter (λ (e : ℕ × (ℕ × ℕ)). e.0 == m) ys)
+-- a term is this one
+abbrev is_term : Term → Option Term → Bool
+is_term term None = false
+is_term term (Some t) = same_term term t
+
+-- the places at which a term stands
+abbrev chosen : Term → List Mark → List Posting
+chosen term ms = map (λ (w : Mark). w.1) (filter (λ (w : Mark). is_term term w.0) ms)
+
+chosen-append : (term : Term) (xs ys : List Mark) → chosen term (xs ++ ys) ≡ chosen term xs ++ chosen term ys
+chosen-append term xs ys =
+    ap (map (λ (w : Mark). w.1)) (filter-append (λ (w : Mark). is_term term w.0) xs ys)
+    ∙ map-append (λ (w : Mark). w.1) (filter (λ (w : Mark). is_term term w.0) xs) (filter (λ (w : Mark). is_term term w.0) ys)
 
 -- ## A token
-
--- the numbers at a token add its pair once, where the number is among them
-row-group : (m n k : ℕ) (ns : List ℕ) (acc : List (ℕ × ℕ)) → fold pushed acc (picked m (row_entries n (k, ns))) ≡ cond (list_any (λ x. x == m) ns) (pushed acc (n, k)) acc
-row-group m n k [] acc = refl
-row-group m n k (x ∷ ns) acc = step (x == m) (row-group m n k ns (pushed acc (n, k))) (row-group m n k ns acc)
-  where
-    same : (d : Bool) → cond d (pushed (pushed acc (n, k)) (n, k)) (pushed acc (n, k)) ≡ pushed acc (n, k)
-    same true = pushed-twice acc (n, k)
-    same false = refl
-
-    told : Bool
-    told = list_any (λ x. x == m) ns
-
-    step : (b : Bool) → fold pushed (pushed acc (n, k)) (picked m (row_entries n (k, ns))) ≡ cond told (pushed (pushed acc (n, k)) (n, k)) (pushed acc (n, k))
-        → fold pushed acc (picked m (row_entries n (k, ns))) ≡ cond told (pushed acc (n, k)) acc
-        → fold pushed acc (map (λ (e : ℕ × (ℕ × ℕ)). e.1) (cond b ((x, (n, k)) ∷ filter (λ (e : ℕ × (ℕ × ℕ)). e.0 == m) (row_entries n (k, ns))) (filter (λ (e : ℕ × (ℕ × ℕ)). e.0 == m) (row_entries n (k, ns)))))
-        ≡ cond (b || list_any (λ x. x == m) ns) (pushed acc (n, k)) acc
-    step true h g = h ∙ same told
-    step false h g = g
 
 same-truth : (a b : Bool) → (a ≡ true → b ≡ true) → (b ≡ true → a ≡ true) → a ≡ b
 same-truth true b h k = sym (h refl)
@@ -103,27 +93,25 @@ same-terms a b e =
 term-itself : (a : Term) → same_term a a ≡ true
 term-itself a = and_from _ _ (eq-eqb (field_place a.0) (field_place a.0) refl) ((bytes_eq-Decides a.1 a.1).1 refl)
 
-module _ (table : List Term) (ascends : IsAscending table) (m : ℕ) (term : Term) (here : slice_get table m ≡ Some term) where
-  numbers-stand : (ts : List Term) (ns : List ℕ) → AreNumbersOf table ts ns → list_any (λ x. x == m) ns ≡ list_any (same_term term) ts
-  numbers-stand [] [] h = refl
-  numbers-stand [] (n ∷ ns) h = absurd h
-  numbers-stand (t ∷ ts) [] h = absurd h
-  numbers-stand (t ∷ ts) (n ∷ ns) h = ap₂ (λ a b. a || b) one (numbers-stand ts ns h.1)
+module _ (term : Term) where
+  -- the terms at a token add its pair once, where the term is among them
+  row-group : (n k : ℕ) (ts : List Term) (acc : List (ℕ × ℕ)) → fold pushed acc (chosen term (marks_at (n, k) ts)) ≡ cond (list_any (same_term term) ts) (pushed acc (n, k)) acc
+  row-group n k [] acc = refl
+  row-group n k (x ∷ ts) acc = step (same_term term x) (row-group n k ts (pushed acc (n, k))) (row-group n k ts acc)
     where
-      some : (a b : Term) → Some a ≡ Some b → a ≡ b
-      some a b e = cc
+      same : (d : Bool) → cond d (pushed (pushed acc (n, k)) (n, k)) (pushed acc (n, k)) ≡ pushed acc (n, k)
+      same true = pushed-twice acc (n, k)
+      same false = refl
 
-      one : (n == m) ≡ same_term term t
-      one = same-truth (n == m) (same_term term t)
-          (λ e.
-          let at : n ≡ m = eqb-true n m e in
-          let is : term ≡ t = some term t (sym here ∙ ap (slice_get table) (sym at) ∙ h.0) in
-          subst (λ (u : Term). same_term term u ≡ true) is (term-itself term)
-          )
-          (λ e.
-          let is : term ≡ t = same-terms term t e in
-          eq-eqb n m (one-place term_cmp terms-exact table n m term ascends (h.0 ∙ ap Some (sym is)) here)
-          )
+      told : Bool
+      told = list_any (same_term term) ts
+
+      step : (b : Bool) → fold pushed (pushed acc (n, k)) (chosen term (marks_at (n, k) ts)) ≡ cond told (pushed (pushed acc (n, k)) (n, k)) (pushed acc (n, k))
+          → fold pushed acc (chosen term (marks_at (n, k) ts)) ≡ cond told (pushed acc (n, k)) acc
+          → fold pushed acc (map (λ (w : Mark). w.1) (cond b ((Some x, (n, k)) ∷ filter (λ (w : Mark). is_term term w.0) (marks_at (n, k) ts)) (filter (λ (w : Mark). is_term term w.0) (marks_at (n, k) ts))))
+          ≡ cond (b || list_any (same_term term) ts) (pushed acc (n, k)) acc
+      step true h g = h ∙ same told
+      step false h g = g
 
   -- ## A sentence
 
@@ -139,26 +127,26 @@ module _ (table : List Term) (ascends : IsAscending table) (m : ℕ) (term : Ter
   low-more n k [] h = let lt : k < k + 1 = omega arith in (inr (refl, lt), tt)
   low-more n k (q ∷ acc) h = ((weaker n k (q ∷ acc) h).0, low-more n k acc h.1)
 
-  sentence-group : (s : Sentence) (n k : ℕ) (ts : List Token) (rows : List (List ℕ)) (acc : List (ℕ × ℕ)) → IsLow n k acc → AreRows table s k ts rows
-      → fold pushed acc (picked m (rows_entries n k rows)) ≡ acc ++ map (λ (t : ℕ × Token). (n, t.0)) (filter (stands_at term s) (enumerate_from k ts))
-  sentence-group s n k [] [] acc low are = sym (append-nil acc)
-  sentence-group s n k [] (row ∷ rows) acc low are = absurd are
-  sentence-group s n k (t ∷ ts) [] acc low are = absurd are
-  sentence-group s n k (t ∷ ts) (row ∷ rows) acc low are =
-      ap (fold pushed acc) (picked-append m (row_entries n (k, row)) (rows_entries n (k + 1) rows))
-      ∙ fold-append pushed acc (picked m (row_entries n (k, row))) (picked m (rows_entries n (k + 1) rows))
-      ∙ ap (λ (a : List (ℕ × ℕ)). fold pushed a (picked m (rows_entries n (k + 1) rows)))
-      (row-group m n k row acc ∙ ap (λ b. cond b (pushed acc (n, k)) acc) (numbers-stand (terms_at s (k, t)) row are.0))
-      ∙ step (stands_at term s (k, t)) (λ (a : List (ℕ × ℕ)) (l : IsLow n (k + 1) a). sentence-group s n (k + 1) ts rows a l are.1)
+  sentence-group : (s : Sentence) (n k : ℕ) (ts : List Token) (acc : List (ℕ × ℕ)) → IsLow n k acc
+      → fold pushed acc (chosen term (flat_map (token_marks n s) (enumerate_from k ts))) ≡ acc ++ map (λ (t : ℕ × Token). (n, t.0)) (filter (stands_at term s) (enumerate_from k ts))
+  sentence-group s n k [] acc low = sym (append-nil acc)
+  sentence-group s n k (t ∷ ts) acc low =
+      ap (fold pushed acc) (chosen-append term (token_marks n s (k, t)) after)
+      ∙ fold-append pushed acc (chosen term (token_marks n s (k, t))) (chosen term after)
+      ∙ ap (λ (a : List (ℕ × ℕ)). fold pushed a (chosen term after)) (row-group n k (terms_at s (k, t)) acc)
+      ∙ step (stands_at term s (k, t)) (λ (a : List (ℕ × ℕ)) (l : IsLow n (k + 1) a). sentence-group s n (k + 1) ts a l)
     where
+      after : List Mark
+      after = flat_map (token_marks n s) (enumerate_from (k + 1) ts)
+
       rest : List (ℕ × ℕ)
       rest = map (λ (u : ℕ × Token). (n, u.0)) (filter (stands_at term s) (enumerate_from (k + 1) ts))
 
-      step : (b : Bool) → ((a : List (ℕ × ℕ)) → IsLow n (k + 1) a → fold pushed a (picked m (rows_entries n (k + 1) rows)) ≡ a ++ rest)
-          → fold pushed (cond b (pushed acc (n, k)) acc) (picked m (rows_entries n (k + 1) rows))
+      step : (b : Bool) → ((a : List (ℕ × ℕ)) → IsLow n (k + 1) a → fold pushed a (chosen term after) ≡ a ++ rest)
+          → fold pushed (cond b (pushed acc (n, k)) acc) (chosen term after)
           ≡ acc ++ map (λ (u : ℕ × Token). (n, u.0)) (cond b ((k, t) ∷ filter (stands_at term s) (enumerate_from (k + 1) ts)) (filter (stands_at term s) (enumerate_from (k + 1) ts)))
       step true next =
-          ap (λ (a : List (ℕ × ℕ)). fold pushed a (picked m (rows_entries n (k + 1) rows))) (pushed-low n k acc low)
+          ap (λ (a : List (ℕ × ℕ)). fold pushed a (chosen term after)) (pushed-low n k acc low)
           ∙ next (acc ++ (n, k) ∷ []) (low-more n k acc low)
           ∙ append_assoc acc ((n, k) ∷ []) rest
       step false next = next acc (weaker n k acc low)
@@ -181,22 +169,52 @@ module _ (table : List Term) (ascends : IsAscending table) (m : ℕ) (term : Ter
   low-both n [] ys h g = g
   low-both n (x ∷ xs) ys h g = (h.0, low-both n xs ys h.1 g)
 
-  sentences-group : (n : ℕ) (ss : List Sentence) (sheets : List (List (List ℕ))) (acc : List (ℕ × ℕ)) → IsLow n 0 acc → AreSheets table ss sheets
-      → fold pushed acc (picked m (entries_from n sheets)) ≡ acc ++ flat_map (postings_in term) (enumerate_from n ss)
-  sentences-group n [] [] acc low are = sym (append-nil acc)
-  sentences-group n [] (rows ∷ sheets) acc low are = absurd are
-  sentences-group n (s ∷ ss) [] acc low are = absurd are
-  sentences-group n (s ∷ ss) (rows ∷ sheets) acc low are =
+  sentences-group : (n : ℕ) (ss : List Sentence) (acc : List (ℕ × ℕ)) → IsLow n 0 acc
+      → fold pushed acc (chosen term (flat_map sentence_marks (enumerate_from n ss))) ≡ acc ++ flat_map (postings_in term) (enumerate_from n ss)
+  sentences-group n [] acc low = sym (append-nil acc)
+  sentences-group n (s ∷ ss) acc low =
       let here' : List (ℕ × ℕ) = postings_in term (n, s) in
-      ap (fold pushed acc) (picked-append m (rows_entries n 0 rows) (entries_from (n + 1) sheets))
-      ∙ fold-append pushed acc (picked m (rows_entries n 0 rows)) (picked m (entries_from (n + 1) sheets))
-      ∙ ap (λ (a : List (ℕ × ℕ)). fold pushed a (picked m (entries_from (n + 1) sheets))) (sentence-group s n 0 s.tokens rows acc low are.0)
-      ∙ sentences-group (n + 1) ss sheets (acc ++ here')
-      (low-both (n + 1) acc here' (low-next n acc low) (low-tokens n (filter (stands_at term s) (enumerate_from 0 s.tokens)))) are.1
+      let after : List Mark = flat_map sentence_marks (enumerate_from (n + 1) ss) in
+      ap (fold pushed acc) (chosen-append term (sentence_marks (n, s)) after)
+      ∙ fold-append pushed acc (chosen term (sentence_marks (n, s))) (chosen term after)
+      ∙ ap (λ (a : List (ℕ × ℕ)). fold pushed a (chosen term after)) (sentence-group s n 0 s.tokens acc low)
+      ∙ sentences-group (n + 1) ss (acc ++ here')
+      (low-both (n + 1) acc here' (low-next n acc low) (low-tokens n (filter (stands_at term s) (enumerate_from 0 s.tokens))))
       ∙ append_assoc acc here' (flat_map (postings_in term) (enumerate_from (n + 1) ss))
 
-  pub group-is : (ss : List Sentence) (sheets : List (List (List ℕ))) → AreSheets table ss sheets → group_of (entries_from 0 sheets) m ≡ postings term ss
-  group-is ss sheets are = sentences-group 0 ss sheets [] tt are
+  pub marks-group : (ss : List Sentence) → fold pushed [] (chosen term (marks_in ss)) ≡ postings term ss
+  marks-group ss = sentences-group 0 ss [] tt
+
+-- the pairs with a number are those at which its term stands
+module _ (table : List Term) (ascends : IsAscending table) (m : ℕ) (term : Term) (here : slice_get table m ≡ Some term) where
+  some : (a b : Term) → Some a ≡ Some b → a ≡ b
+  some a b e = cc
+
+  one : (n : ℕ) (o : Option Term) → slice_get table n ≡ o → (n == m) ≡ is_term term o
+  one n None at = ne_eqb n m (λ e. let q : Some term ≡ None = sym here ∙ ap (slice_get table) (sym e) ∙ at in absurd (cc))
+  one n (Some t) at =
+      same-truth (n == m) (same_term term t)
+      (λ e.
+      let here' : n ≡ m = eqb-true n m e in
+      let is : term ≡ t = some term t (sym here ∙ ap (slice_get table) (sym here') ∙ at) in
+      subst (λ (u : Term). same_term term u ≡ true) is (term-itself term)
+      )
+      (λ e.
+      let is : term ≡ t = same-terms term t e in
+      eq-eqb n m (one-place term_cmp terms-exact table n m term ascends (at ∙ ap Some (sym is)) here)
+      )
+
+  pub picked-chosen : (es : List (ℕ × Posting)) → picked m es ≡ chosen term (marks_of table es)
+  picked-chosen [] = refl
+  picked-chosen (e ∷ es) = by (e.0 == m) (is_term term (slice_get table e.0)) (one e.0 (slice_get table e.0) refl) (picked-chosen es)
+    where
+      by : (a b : Bool) → a ≡ b → picked m es ≡ chosen term (marks_of table es)
+          → map (λ (x : ℕ × Posting). x.1) (cond a (e ∷ filter (λ (x : ℕ × Posting). x.0 == m) es) (filter (λ (x : ℕ × Posting). x.0 == m) es))
+          ≡ map (λ (w : Mark). w.1) (cond b ((slice_get table e.0, e.1) ∷ filter (λ (w : Mark). is_term term w.0) (marks_of table es)) (filter (λ (w : Mark). is_term term w.0) (marks_of table es)))
+      by true true q h = ap (λ ps. e.1 ∷ ps) h
+      by false false q h = h
+      by true false q h = absurd (cc)
+      by false true q h = absurd (cc)
 
 -- ## All numbers
 
@@ -209,6 +227,10 @@ by-numbers f g from (t ∷ ts) h =
     (by-numbers f g (from + 1) ts (λ k u at. let q : from + 1 + k ≡ from + suc k = omega arith in ap f q ∙ h (suc k) u at))
 
 pub groups-are-postings : GroupsArePostings
-groups-are-postings table ss sheets ascends are =
-    by-numbers (group_of (entries_from 0 sheets)) (λ term. postings term ss) 0 table
-    (λ k term at. let z : 0 + k ≡ k = omega arith in ap (group_of (entries_from 0 sheets)) z ∙ group-is table ascends k term at ss sheets are)
+groups-are-postings table ss entries ascends are =
+    by-numbers (group_of entries) (λ term. postings term ss) 0 table
+    (λ k term at.
+    let z : 0 + k ≡ k = omega arith in
+    ap (group_of entries) z
+    ∙ ap (fold pushed []) (picked-chosen table ascends k term at entries ∙ ap (chosen term) are)
+    ∙ marks-group term ss)
