@@ -3,8 +3,10 @@ use Rattle.std.specs.Prelude.{◌≡◌, ℕ, ◌<◌, ◌^◌, List, length, ma
 use Rattle.std.specs.List.{enumerate_from}
 use Rattle.od_text.specs.Lists.{Each}
 use Rattle.od_document.specs.declared.sentence.Sentence.{Sentence}
-use Rattle.od_index.specs.Sites.{Site}
-use Rattle.od_index.specs.Terms.{Term}
+use Rattle.od_index.specs.Postings.{Posting, posting_lists}
+use Rattle.od_index.specs.Sentences.{HasTerms}
+use Rattle.od_index.specs.Sites.{Site, sentences_in}
+use Rattle.od_index.specs.Terms.{Term, sentence_terms}
 use Rattle.od_segment.specs.declared.segment.Placed.{Placed}
 
 -- a sentence, where it stands
@@ -23,8 +25,15 @@ AreOver table ps = Each (λ (p : Placed). p.words.table ≡ table) ps
 abbrev pub AreWithin : ℕ → List Placed → Type 0
 AreWithin documents ps = Each (λ (p : Placed). p.document < documents) ps
 
--- the sentences of some documents, as numbers of a table
-pub record IsSegment (documents : ℕ) (ps : List Placed) (table : List Term) : Type 0 where
+-- the table has every term of each sentence
+abbrev pub AreServed : List Term → List Site → Type 0
+AreServed table ss = Each (λ (site : Site). HasTerms table (sentence_terms site.words)) ss
+
+-- the sentences of some documents, as numbers of a table, and the posting lists of its terms
+pub record IsSegment
+    (documents : ℕ) (ps : List Placed) (table : List Term) (lists : List (List Posting)) : Type 0 where
   pub over : AreOver table ps
   pub within : AreWithin documents ps
   pub few : length ps < 2 ^ 32
+  pub served : AreServed table (map site_of ps)
+  pub posted : lists ≡ posting_lists table (sentences_in (map site_of ps))

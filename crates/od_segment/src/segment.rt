@@ -1,12 +1,18 @@
 //! Segments.
 ghost use Rattle.std.specs.Prelude.{◌≡◌, ◌<◌, ◌+◌, ◌^◌, ◌∷◌, [], length, map, slice_get, Some, IfOk, IsSomeAnd};
 ghost use Rattle.std.specs.Arc.{arc_value};
+ghost use Rattle.od_document.specs.Size.{size_in_parts};
+ghost use Rattle.od_index.specs.Postings.{posting_lists};
 ghost use Rattle.od_index.specs.Segments.{StandsFor};
+ghost use Rattle.od_index.specs.Sites.{sentences_in};
+ghost use Rattle.od_posted.specs.Entries.{IsServedBy};
 ghost use Rattle.od_text.specs.Lists.{Each};
-ghost use Rattle.od_segment.specs.Placed.{site_of, numbered, AreOver, AreWithin};
+ghost use Rattle.od_segment.specs.Placed.{site_of, numbered, AreOver, AreServed, AreWithin};
 
 use crate::steps::Steps;
 use od_document::doc::Doc;
+use od_packed::lists::PackedLists;
+use od_posted::posting_lists;
 use od_postings::{IdSentence, IndexedDoc, TermTable};
 use od_text::text::NoMemory;
 use std::alloc::Global;
@@ -24,13 +30,14 @@ pub(crate) struct Placed {
     pub(crate) words: IdSentence,
 }
 
-/// Documents as numbers: the table has each different text of a field once, and the sentences are
-/// numbers of that table.
+/// Documents as numbers: the table has each different text of a field once, the sentences are
+/// numbers of that table, and each term of it has its posting list.
 #[derive(Drop)]
 pub struct Segment {
     table: Arc<TermTable, Global>,
     documents: u32,
     sentences: Vec<Placed>,
+    lists: PackedLists,
     opened: AtomicU64,
 }
 
@@ -49,7 +56,7 @@ impl Model for Segment {
       table = arc_value s.table;
     } };
 
-    ghost invariant = { λ s. IsSegment s.documents s.sentences.items (arc_value s.table) };
+    ghost invariant = { λ s. IsSegment s.documents s.sentences.items (arc_value s.table) s.lists };
 }
 
 /// The sentences of the first document of a segment, where they stand.
@@ -78,6 +85,23 @@ fn place_all(
     Ok(placed)
 }
 
+/// The posting lists of the terms of a table over sentences, packed. The sentences, their tokens
+/// and their edges are fewer than 2^32 together, so that each list is short enough.
+fn post_all(
+    alloc: Global,
+    table: &TermTable,
+    sentences: &[IdSentence],
+) -> Result<PackedLists, NoMemory>
+    requires small { size_in_parts (map (λ s. s.sentence) sentences.now) < 2 ^ 32 }
+    requires served { Each (IsServedBy table.now) sentences.now }
+    ensures { IfOk result (λ lists.
+        lists ≡ posting_lists table.now (map (λ s. s.sentence) sentences.now)) }
+{
+    let lists = posting_lists(alloc, table, sentences)?;
+    let packed = PackedLists::of(alloc, &lists)?;
+    Ok(packed)
+}
+
 impl Segment {
     /// The segment of one document.
     ///
@@ -88,11 +112,13 @@ impl Segment {
         ensures { IfOk result (StandsFor (doc.now ∷ [])) }
     {
         let IndexedDoc { table, sentences } = IndexedDoc::build(alloc, doc)?;
+        let lists = post_all(alloc, &table, &sentences)?;
         let sentences = place_all(alloc, sentences, &table)?;
         Ok(Segment {
             table,
             documents: 1,
             sentences,
+            lists,
             opened: AtomicU64::new(0),
         })
     }
@@ -128,6 +154,15 @@ impl Segment {
         ensures { result.now ≡ self.now.table }
     {
         &self.table
+    }
+
+    /// The posting lists of the terms of its table, by their numbers, over its sentences. The table
+    /// has every term of each sentence.
+    pub fn lists(&self) -> &PackedLists
+        ensures lists { result.now ≡ posting_lists self.now.table (sentences_in self.now.sites) }
+        ensures served { AreServed self.now.table self.now.sites }
+    {
+        &self.lists
     }
 
     /// Opens a sentence, which counts one step. There is no other way to a sentence.
