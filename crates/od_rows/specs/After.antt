@@ -1,5 +1,5 @@
 -- The rows that a history leaves: those from which it began, and one for each reply `Added`, `Opened` and `Stepped`.
-use Rattle.std.specs.Prelude.{◌≡◌, ℕ, ◌+◌, List, [], ◌∷◌, ◌++◌, length, flat_map, Option, Some, None, Ok}
+use Rattle.std.specs.Prelude.{◌≡◌, ℕ, ◌+◌, List, [], ◌∷◌, ◌++◌, flat_map, Option, Some, None, Ok}
 use Rattle.od_text.specs.Lists.{points, EachPoint}
 use Rattle.od_document.specs.declared.doc.Doc.{Doc}
 use Rattle.od_pattern.specs.declared.grammar.Head.{Head}

@@ -6,17 +6,23 @@ use Rattle.od_extraction.specs.Weight.{weight, most_weight}
 use Rattle.od_session.specs.declared.object.SessionState.{SessionState}
 use Rattle.od_session.specs.declared.object.TheConstants.{SESSION_ROUNDS}
 use Rattle.od_pattern.specs.declared.grammar.Head.{Head}
+use Rattle.od_command.specs.declared.history.Command.TheVariants.{AddDoc, OpenSession, Step}
 use Rattle.od_command.specs.declared.history.Entry.{Entry}
+use Rattle.od_command.specs.declared.history.Reply.TheVariants.{Added, Opened, Stepped}
 use Rattle.od_row.specs.declared.rows.Rows.{Rows}
+use Rattle.od_row.specs.More.{with_doc, with_session, with_round}
 use Rattle.od_order.specs.Names.{IsProper}
-use Rattle.od_session.specs.Parts.{IsAccepted, session_of, round_at}
+use Rattle.od_session.specs.declared.object.OneThread.{OneThread}
+use Rattle.od_session.specs.Parts.{IsAccepted, head_of, session_of, round_at}
 use Rattle.od_extraction.specs.declared.mention.Mention.{Mention}
 use Rattle.od_extraction.specs.declared.mention.RoundResult.TheVariants.{Found}
+use Rattle.od_extraction.specs.declared.phase.Phase.{Phase}
 use Rattle.od_stored.specs.declared.limits.TheConstants.{NUMBER_END}
-use Rattle.od_stored.specs.Mentions.{IsWritable}
+use Rattle.od_stored.specs.Mentions.{list_bytes, IsWritable}
+use Rattle.od_model.specs.Object.Effects.{found_of}
 use Rattle.od_model.specs.History.Legal.{state_after, Legal}
 use Rattle.od_row.specs.declared.table.TableName.{TableName}
-use Rattle.od_rows.specs.After.{After, RoundsReadBack}
+use Rattle.od_rows.specs.After.{After, keep_reply, RoundsReadBack}
 use Rattle.od_rows.specs.Formed.{WellFormed, IsBadRow}
 use Rattle.od_rows.specs.Loaded.{load, released}
 use Rattle.od_rows.specs.Sound.{AreSound}
@@ -96,3 +102,16 @@ FoundIsWritable =
     → session_of name (state_after (load base) heads es).sessions ≡ Some s → s.holder ≡ Some owner
     → round_at (state_after (load base) heads es).docs s ≡ Found new
     → (length new < NUMBER_END) × Each IsWritable new
+
+-- the reply to a document, an opening and a step keeps one row, which code makes of what it has
+pub record RowsOfReplies : Type 0 where
+  pub doc : (heads : List Head) (o : OneThread) (rows : Rows) (name body : List ℕ) (documents : ℕ)
+      → keep_reply heads o rows (AddDoc name body) (Added documents) ≡ with_doc rows (record { name = name; body = body })
+  pub session : (heads : List Head) (o : OneThread) (rows : Rows) (name grammar : List ℕ) (limit documents shown : ℕ) (head : Head)
+      → head_of grammar heads ≡ Some head
+      → keep_reply heads o rows (OpenSession name grammar limit) (Opened documents shown)
+      ≡ with_session rows (record { name = name; kind = head.kind; text = head.text; documents = documents; limit = limit })
+  pub round : (heads : List Head) (o : OneThread) (rows : Rows) (name : List ℕ) (number added : ℕ) (phase : Phase) (s : SessionState)
+      → session_of name o.sessions ≡ Some s
+      → keep_reply heads o rows (Step name) (Stepped number added phase)
+      ≡ with_round rows (record { session = name; round = number; body = list_bytes (found_of (round_at o.docs s)) })

@@ -1,5 +1,5 @@
 -- Rows are well formed, or one of them is the first that is not.
-use Rattle.std.proofs.Common.{◌≡◌, ◌⊎◌, inl, inr, ℕ, suc, ◌+◌, ◌<◌, ◌≤◌, List, [], ◌∷◌, ◌++◌, length, take, find, filter, Option, Some, None, Result, Ok, Err, Bool, true, false, refl, sym, ap, ◌∙◌, subst, append-nil, append_assoc, arith, eqb, eqb-true, eq-eqb, slice_get, nat_lt, nat_le}
+use Rattle.std.proofs.Common.{◌≡◌, ◌⊎◌, inl, inr, ℕ, ◌+◌, ◌<◌, ◌≤◌, List, [], ◌∷◌, ◌++◌, length, take, find, filter, Option, Some, None, Result, Ok, Err, Bool, true, false, refl, sym, ap, ◌∙◌, subst, append-nil, append_assoc, arith, eqb, eqb-true, eq-eqb, slice_get, nat_lt, nat_le}
 use Rattle.std.specs.Bool.{Decides}
 use Rattle.std.specs.List.{list_any}
 use Rattle.std.proofs.lemmas.Bool.Decides.{Decides-ltb}
@@ -10,7 +10,6 @@ use Rattle.od_extraction.specs.declared.mention.Mention.{Mention}
 use Rattle.od_extraction.specs.declared.mention.Part.{Part}
 use Rattle.od_extraction.specs.Spans.{LiesIn, LiesWithin, PartLiesWithin}
 use Rattle.od_extraction.specs.Weight.{weight, most_weight}
-use Rattle.od_stored.specs.declared.fault.CodecFault.{CodecFault}
 use Rattle.od_stored.specs.ReadMentions.{list_read}
 use Rattle.od_row.specs.declared.rows.DocRow.{DocRow}
 use Rattle.od_row.specs.declared.rows.SessionRow.{SessionRow}

@@ -1,5 +1,5 @@
 -- The rows that a legal history leaves are well formed, and give the object that it leads to.
-use Rattle.std.proofs.Common.{◌≡◌, ◌≢◌, ℕ, suc, ◌+◌, ◌≤◌, List, [], ◌∷◌, ◌++◌, length, map, filter, find, sum_by, take, Option, Some, None, Result, Ok, Err, Bool, true, false, cond, ◌||◌, ◌&&◌, nat_lt, nat_le, refl, sym, ap, ap₂, ◌∙◌, subst, bytes_eq, append-nil, append_assoc, if◌then◌else◌, arith, eqb, length-append, ltb-false, leb-false, flat_map}
+use Rattle.std.proofs.Common.{◌≡◌, ◌≢◌, ℕ, suc, ◌+◌, ◌≤◌, List, [], ◌∷◌, ◌++◌, length, map, filter, find, take, Option, Some, None, Result, Ok, Err, Bool, true, false, cond, ◌||◌, ◌&&◌, nat_lt, nat_le, refl, sym, ap, ap₂, ◌∙◌, subst, bytes_eq, append-nil, append_assoc, if◌then◌else◌, arith, eqb, length-append, ltb-false, leb-false, flat_map}
 use Rattle.std.specs.List.{list_any}
 use Rattle.std.specs.Prelude.{option_map}
 use Rattle.std.specs.Option.{option_or}
@@ -14,15 +14,11 @@ use Rattle.od_document.specs.Building.{document_of}
 use Rattle.od_document.specs.Faults.{doc_fault}
 use Rattle.od_document.proofs.Existence.{document_built, document_of-Reads}
 use Rattle.od_pattern.specs.declared.grammar.Head.{Head}
-use Rattle.od_pattern.specs.declared.grammar.Grammar.{Grammar}
-use Rattle.od_pattern.specs.declared.grammar.GrammarKind.{GrammarKind}
 use Rattle.od_extraction.specs.declared.mention.Mention.{Mention}
 use Rattle.od_extraction.specs.declared.mention.RoundResult.{RoundResult}
 use Rattle.od_extraction.specs.declared.mention.RoundResult.TheVariants.{Found}
 use Rattle.od_extraction.specs.declared.mention.RoundResult.TheVariants as outcome
 use Rattle.od_extraction.specs.declared.phase.Phase.{Phase}
-use Rattle.od_extraction.specs.Spans.{LiesIn}
-use Rattle.od_extraction.specs.Weight.{weight, most_weight}
 use Rattle.od_extraction.specs.Joined.{joined}
 use Rattle.od_matching.specs.Rounds.Round.{round}
 use Rattle.od_matching.specs.Rounds.Phases.{greatest_first}
@@ -36,7 +32,7 @@ use Rattle.od_row.specs.declared.rows.Rows.{Rows}
 use Rattle.od_command.specs.declared.history.Command.{Command}
 use Rattle.od_command.specs.declared.history.Command.TheVariants.{AddDoc, OpenSession, Step, Resume, Print, Release, Settle}
 use Rattle.od_command.specs.declared.history.Reply.{Reply}
-use Rattle.od_command.specs.declared.history.Reply.TheVariants.{Added, Opened, Stepped, Resumed, Released, Refused}
+use Rattle.od_command.specs.declared.history.Reply.TheVariants.{Added, Opened, Resumed, Refused}
 use Rattle.od_command.specs.declared.history.Refusal.{Refusal}
 use Rattle.od_command.specs.declared.history.Refusal.TheVariants.{Duplicate, Full, NoGrammar, BadLimit, Taken, NoRoom, Busy}
 use Rattle.od_command.specs.declared.history.Entry.{Entry}
@@ -45,23 +41,21 @@ use Rattle.od_rule_text.specs.declared.limits.TheConstants.{GRAMMAR_BYTES}
 use Rattle.od_session.specs.declared.object.SessionState.{SessionState}
 use Rattle.od_session.specs.declared.object.OneThread.{OneThread}
 use Rattle.od_session.specs.declared.object.TheConstants.{ALL_DOCUMENTS, ALL_BYTES, SESSIONS, SESSION_ROUNDS}
-use Rattle.od_session.specs.Grammars.{grammar_of}
 use Rattle.od_session.specs.Parts.{IsAccepted, Distinct, is_named, session_of, has_session, has_doc, is_full, size_of, head_of, phase_with, round_at, grammar_at, is_known}
 use Rattle.od_text.specs.Lists.{Each, EachPoint, points_after, points}
 use Rattle.od_model.specs.Object.Replies.{Replies, reply_read, reply_headed, reply_step, reply_phase, reply_round, reply_resume, reply_unheld, reply_print, reply_release, held, held_in, held_as}
 use Rattle.od_model.specs.Object.Sound.{IsSound, IsSoundSession}
 use Rattle.od_model.specs.Object.Effects.{doc_made, change, found_of, stepped, taken_by, let_go, opened, effect_of}
-use Rattle.od_model.specs.History.Legal.{state_after, IsNext, Legal}
-use Rattle.od_text.proofs.Lists.{Each-append, Each-map, Each-weaker, Each-both, Each-find, EachPoint-snoc, EachPoint-weaker, EachPoint-each, find-passes, points-append, points-snoc}
+use Rattle.od_model.specs.History.Legal.{state_after, IsNext}
+use Rattle.od_text.proofs.Lists.{Each-map, Each-weaker, Each-both, Each-find, EachPoint-snoc, EachPoint-weaker, EachPoint-each, find-passes, points-snoc}
 use Rattle.od_matching.proofs.Rounds.Found.{round-found}
 use Rattle.od_model.proofs.Objects.Names.{session-unique, same-name, Distinct-kept}
 use Rattle.od_model.proofs.Histories.Steps.{state_after-start, state_after-snoc}
 use Rattle.od_model.proofs.Histories.Sound.{going-below, sound-after}
 use Rattle.od_rows.specs.Loaded.{doc_of, docs_of, is_round_of, list_of, lists_of, session_in, load, released}
 use Rattle.od_rows.specs.Formed.{is_doc_row, is_session_row, bytes_in, FitsDoc, FitsSession, FitsRound, WellFormed}
-use Rattle.od_rows.specs.After.{doc_rows, session_rows, row_of_head, row_of_round, round_rows, round_rows_at, keep_reply, keep, After, ReadsBack, ReadsBackIn, IsReadBack, RoundsReadBack}
+use Rattle.od_rows.specs.After.{doc_rows, session_rows, row_of_head, row_of_round, round_rows_at, keep_reply, keep, After, ReadsBack, ReadsBackIn, IsReadBack}
 use Rattle.od_rows.specs.Laws.{GoesOnFrom, FormedStaysFormed, FoundIsWritable, LegalRoundsReadBack, LoadsWhatWasReached, SoundStaysSound, NoRowsAreSound}
-use Rattle.od_rows.specs.Sound.{AreSound}
 use Rattle.od_rows.proofs.Rows.Known.{IsHeldKnown, IsGood, knows, held-back, held-writable}
 use Rattle.od_stored.specs.declared.limits.TheConstants.{NUMBER_END}
 use Rattle.std.specs.Prelude.{IsUtf8}

@@ -1,5 +1,5 @@
 -- Who holds a session holds one of a grammar of the script, and what its next round finds is read back.
-use Rattle.std.proofs.Common.{◌≡◌, ℕ, zero, suc, ◌+◌, ◌<◌, ◌≤◌, List, [], ◌∷◌, ◌++◌, length, take, find, Option, Some, None, Result, Ok, Err, Bool, true, false, cond, ◌||◌, ◌&&◌, refl, sym, ap, ◌∙◌, subst, bytes_eq, if◌then◌else◌, arith}
+use Rattle.std.proofs.Common.{◌≡◌, ℕ, zero, suc, ◌+◌, ◌<◌, ◌≤◌, List, [], ◌∷◌, length, take, find, Option, Some, None, Result, Ok, Err, Bool, true, false, cond, ◌||◌, ◌&&◌, refl, sym, ap, ◌∙◌, subst, bytes_eq, if◌then◌else◌, arith}
 use Rattle.std.specs.List.{list_any}
 use Rattle.std.specs.Prelude.{IsUtf8, unwrap_or}
 use Rattle.std.proofs.lemmas.Bool.{and_parts}
@@ -29,8 +29,8 @@ use Rattle.od_session.specs.declared.object.OneThread.{OneThread}
 use Rattle.od_session.specs.Grammars.{grammar_of, value_in}
 use Rattle.od_session.specs.Parts.{IsAccepted, Distinct, is_named, session_of, head_of, same_kind, is_known, phase_with, round_at, grammar_at}
 use Rattle.od_text.specs.Lists.{Each}
-use Rattle.od_text.proofs.Lists.{Each-append, Each-weaker, Each-both, Each-find}
-use Rattle.od_model.specs.Object.Effects.{change, stepped, taken_by, let_go, opened, effect_of}
+use Rattle.od_text.proofs.Lists.{Each-append, Each-weaker}
+use Rattle.od_model.specs.Object.Effects.{stepped, taken_by, let_go, opened, effect_of}
 use Rattle.od_model.specs.Object.Replies.{Replies, reply_resume, reply_unheld}
 use Rattle.od_model.proofs.Objects.Names.{or_from_left, or_from_right, session-unique, Each-change, Each-changed}
 use Rattle.od_named.specs.Laws.{AreUtf8}

@@ -1,17 +1,14 @@
 -- Sessions that a legal history leads to can be put together again.
-use Rattle.std.proofs.Common.{◌≡◌, ℕ, suc, ◌≤◌, List, [], ◌∷◌, ◌++◌, length, map, filter, find, Option, Some, None, Ok, Err, Bool, true, false, cond, ◌||◌, refl, sym, ap, ◌∙◌, subst, bytes_eq, append_assoc, arith}
+use Rattle.std.proofs.Common.{◌≡◌, suc, ◌≤◌, List, [], ◌∷◌, ◌++◌, length, map, filter, find, Option, Some, None, Bool, true, false, cond, ◌||◌, refl, sym, ap, ◌∙◌, subst, append_assoc, arith}
 use Rattle.std.specs.List.{list_any}
 use Rattle.std.specs.Option.{option_or}
 use Rattle.std.proofs.lemmas.List.Folds.{find-append}
 use Rattle.std.proofs.lemmas.Slice.Eq.{bytes_eq-Decides}
 use Rattle.od_document.specs.declared.doc.Doc.{Doc}
-use Rattle.od_extraction.specs.declared.mention.Mention.{Mention}
 use Rattle.od_extraction.specs.Weight.{weight, most_weight}
 use Rattle.od_row.specs.declared.rows.SessionRow.{SessionRow}
 use Rattle.od_row.specs.declared.rows.RoundRow.{RoundRow}
 use Rattle.od_row.specs.declared.rows.Rows.{Rows}
-use Rattle.od_stored.specs.ReadMentions.{list_read}
-use Rattle.od_session.specs.declared.object.SessionState.{SessionState}
 use Rattle.od_session.specs.declared.object.OneThread.{OneThread}
 use Rattle.od_session.specs.declared.object.TheConstants.{SESSION_ROUNDS}
 use Rattle.od_text.specs.Lists.{Each, EachPoint, points_after}
@@ -20,7 +17,7 @@ use Rattle.od_model.specs.Object.Effects.{let_go}
 use Rattle.od_model.specs.History.Legal.{state_after}
 use Rattle.od_rows.specs.Formed.{is_session_row, FitsSession, FitsRound}
 use Rattle.od_rows.specs.Laws.{CanResume, SessionsCanResume}
-use Rattle.od_rows.specs.Loaded.{docs_of, is_round_of, list_of, lists_of, read_mentions, session_in, load}
+use Rattle.od_rows.specs.Loaded.{docs_of, is_round_of, list_of, read_mentions, session_in, load}
 use Rattle.od_rows.specs.After.{After}
 use Rattle.od_rows.proofs.Rows.Keeping.{Stands, stands, rounds-few, docs-are, sessions-are}
 
