@@ -12,14 +12,15 @@ use Rattle.od_matching.specs.Rounds.Standing.{standing}
 use Rattle.od_pattern.specs.declared.grammar.Grammar.{Grammar}
 use Rattle.od_pattern.specs.declared.grammar.Head.{Head}
 use Rattle.od_pattern.specs.declared.rule.Rule.{Rule}
-use Rattle.od_running.specs.Running.{Running}
+use Rattle.od_extraction.specs.declared.mention.Mention.{Mention}
+use Rattle.od_rounds.specs.Running.{Running}
 use Rattle.od_session.specs.Grammars.{grammar_of, room_with}
 use Rattle.od_session.proofs.Accepted.{grammar_of-read}
 use Rattle.od_grammars.specs.Grammars.{grammar_read}
 
--- a session of rules with no round yet
-abbrev pub started : List Rule → Seen → ℕ → Running
-started rules seen limit = record { rules = rules; seen = seen; limit = limit; at = standing [] }
+-- a session of rules behind rounds that added these lists
+abbrev pub resumed : List Rule → Seen → ℕ → List (List Mention) → Running
+resumed rules seen limit lists = record { rules = rules; seen = seen; limit = limit; at = standing lists }
 
 module _ {R : Type 0} (pattern : R → List ℕ) where
   -- with the same rules, which can be run, a grammar is still that of the head
@@ -46,18 +47,18 @@ module _ {R : Type 0} (pattern : R → List ℕ) where
       subst (λ (o : Option (Ready R)). IsSomeAnd o (λ one. CanRun pattern (arc_value one.rules) one.runners)) (sym at.3) at.4.can_run
 
   -- a session of the rules at a place is one of the grammar of the head there
-  pub runs-at : (heads : List Head) (ready : List (Ready R)) (place : ℕ) (s : Running) (seen : Seen) (limit : ℕ) → AllZip (IsReady pattern) heads ready → place < length heads
-      → IsSomeAnd (slice_get ready place) (λ one. s ≡ started (arc_value one.rules) seen limit)
-      → IsSomeAnd (slice_get heads place) (λ head. (grammar : Grammar) × (grammar_of head.kind head.text ≡ Some grammar) × (s ≡ started grammar.rules seen limit))
-  runs-at heads ready place s seen limit zip less is =
+  pub runs-at : (heads : List Head) (ready : List (Ready R)) (place : ℕ) (s : Running) (seen : Seen) (limit : ℕ) (lists : List (List Mention)) → AllZip (IsReady pattern) heads ready → place < length heads
+      → IsSomeAnd (slice_get ready place) (λ one. s ≡ resumed (arc_value one.rules) seen limit lists)
+      → IsSomeAnd (slice_get heads place) (λ head. (grammar : Grammar) × (grammar_of head.kind head.text ≡ Some grammar) × (s ≡ resumed grammar.rules seen limit lists))
+  runs-at heads ready place s seen limit lists zip less is =
       let at = zip_at (IsReady pattern) heads ready place zip less in
-      let one : s ≡ started (arc_value at.1.rules) seen limit = subst (λ (o : Option (Ready R)). IsSomeAnd o (λ one. s ≡ started (arc_value one.rules) seen limit)) at.3 is in
-      subst (λ (o : Option Head). IsSomeAnd o (λ head. (grammar : Grammar) × (grammar_of head.kind head.text ≡ Some grammar) × (s ≡ started grammar.rules seen limit))) (sym at.2)
+      let one : s ≡ resumed (arc_value at.1.rules) seen limit lists = subst (λ (o : Option (Ready R)). IsSomeAnd o (λ one. s ≡ resumed (arc_value one.rules) seen limit lists)) at.3 is in
+      subst (λ (o : Option Head). IsSomeAnd o (λ head. (grammar : Grammar) × (grammar_of head.kind head.text ≡ Some grammar) × (s ≡ resumed grammar.rules seen limit lists))) (sym at.2)
       (grammar_with at.0 at.0.text (arc_value at.1.rules), at.4.grammar, one)
 
   -- the same where one could be opened
-  pub runs-ok : {E : Type 0} (heads : List Head) (ready : List (Ready R)) (place : ℕ) (r : Result Running E) (seen : Seen) (limit : ℕ) → AllZip (IsReady pattern) heads ready → place < length heads
-      → IfOk r (λ s. IsSomeAnd (slice_get ready place) (λ one. s ≡ started (arc_value one.rules) seen limit))
-      → IfOk r (λ s. IsSomeAnd (slice_get heads place) (λ head. (grammar : Grammar) × (grammar_of head.kind head.text ≡ Some grammar) × (s ≡ started grammar.rules seen limit)))
-  runs-ok heads ready place (Ok s) seen limit zip less is = runs-at heads ready place s seen limit zip less is
-  runs-ok heads ready place (Err e) seen limit zip less is = tt
+  pub runs-ok : {E : Type 0} (heads : List Head) (ready : List (Ready R)) (place : ℕ) (r : Result Running E) (seen : Seen) (limit : ℕ) (lists : List (List Mention)) → AllZip (IsReady pattern) heads ready → place < length heads
+      → IfOk r (λ s. IsSomeAnd (slice_get ready place) (λ one. s ≡ resumed (arc_value one.rules) seen limit lists))
+      → IfOk r (λ s. IsSomeAnd (slice_get heads place) (λ head. (grammar : Grammar) × (grammar_of head.kind head.text ≡ Some grammar) × (s ≡ resumed grammar.rules seen limit lists)))
+  runs-ok heads ready place (Ok s) seen limit lists zip less is = runs-at heads ready place s seen limit lists zip less is
+  runs-ok heads ready place (Err e) seen limit lists zip less is = tt

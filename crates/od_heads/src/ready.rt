@@ -1,17 +1,21 @@
 //! The grammar of a head made ready.
-ghost use Rattle.std.specs.Prelude.{◌≡◌, ◌<◌, [], List as Seq, length, slice_get, IfOk, IsSomeAnd};
+ghost use Rattle.std.specs.Prelude.{◌≡◌, ◌<◌, ◌≤◌, List as Seq, length, slice_get, IfOk, IsSomeAnd};
 ghost use Rattle.std.specs.Arc.{arc_value};
 ghost use Rattle.std.specs.List.{AllZip};
 ghost use Rattle.od_constraint.specs.Runners.{patterns_of};
+ghost use Rattle.od_extraction.specs.Weight.{weight, most_weight};
 ghost use Rattle.od_heads.specs.Ready.{CanRun, IsReady};
 ghost use Rattle.od_matching.specs.Rounds.Standing.{standing};
 ghost use Rattle.od_pattern.specs.declared.grammar.Head.{Head};
+ghost use Rattle.od_text.specs.Lists.{Each};
 
 use od_constraint::Runners;
+use od_extraction::mention::Mention;
 use od_io::Runner;
+use od_rounds::Session;
 use od_rule::compiled::ReadyRules;
-use od_running::Session;
 use od_segment::View;
+use od_text::list::List;
 use od_text::text::NoMemory;
 use std::alloc::Global;
 use std::sync::Arc;
@@ -38,47 +42,53 @@ impl<R: Drop> Ready<R> {
     }
 }
 
-/// A session that runs a grammar over a view, with no round yet.
-fn start_one<R: Runner>(
+/// A session that runs a grammar over a view, behind rounds that added these lists.
+fn resume_one<R: Runner>(
     alloc: Global,
     ready: &mut Ready<R>,
     view: View,
     limit: u32,
+    lists: &[List<Mention>],
 ) -> Result<Session, NoMemory>
-    requires { CanRun R.pattern (arc_value ready.old.rules) ready.old.runners }
-    ensures started { IfOk result (λ s. s ≡ record {
+    requires can_run { CanRun R.pattern (arc_value ready.old.rules) ready.old.runners }
+    requires few { length lists.now ≤ limit }
+    requires light { Each (λ list. weight list ≤ most_weight) lists.now }
+    ensures resumed { IfOk result (λ s. s ≡ record {
       rules = arc_value ready.old.rules;
       seen = view;
       limit = limit;
-      at = standing [];
+      at = standing lists.now;
     }) }
     ensures can_run { CanRun R.pattern (arc_value ready.new.rules) ready.new.runners }
     ensures same { arc_value ready.new.rules ≡ arc_value ready.old.rules }
 {
     let rules = Arc::try_clone(&ready.rules)?;
-    Session::open(alloc, rules, &mut ready.runners, view, limit)
+    Session::resume(alloc, rules, &mut ready.runners, view, limit, lists)
 }
 
-/// A session that runs the grammar at a place over a view, with no round yet.
-pub(crate) fn start_at<R: Runner>(
+/// A session that runs the grammar at a place over a view, behind rounds that added these lists.
+pub(crate) fn resume_at<R: Runner>(
     alloc: Global,
     ready: &mut [Ready<R>],
     place: usize,
     view: View,
     limit: u32,
+    lists: &[List<Mention>],
 ) -> Result<Session, NoMemory>
     requires there { place < length ready.old }
     requires can_run { IsSomeAnd (slice_get ready.old place)
         (λ one. CanRun R.pattern (arc_value one.rules) one.runners) }
-    ensures started { IfOk result (λ s. IsSomeAnd (slice_get ready.old place)
+    requires few { length lists.now ≤ limit }
+    requires light { Each (λ list. weight list ≤ most_weight) lists.now }
+    ensures resumed { IfOk result (λ s. IsSomeAnd (slice_get ready.old place)
         (λ one. s ≡ record {
           rules = arc_value one.rules;
           seen = view;
           limit = limit;
-          at = standing [];
+          at = standing lists.now;
         })) }
     ensures ready { (heads : Seq Head) → AllZip (IsReady R.pattern) heads ready.old
         → AllZip (IsReady R.pattern) heads ready.new }
 {
-    start_one(alloc, &mut ready[place], view, limit)
+    resume_one(alloc, &mut ready[place], view, limit, lists)
 }
