@@ -19,7 +19,7 @@ use od_io::Runner;
 use od_mentions::State;
 use od_names::names::Names;
 use od_pattern::grammar::Head;
-use od_running::Session;
+use od_rounds::Session;
 use od_segment::{Segment, View};
 use od_session::object::{ALL_BYTES, ALL_DOCUMENTS, SESSION_ROUNDS, SESSIONS, SessionState};
 use od_text::list::List;

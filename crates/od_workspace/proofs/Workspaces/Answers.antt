@@ -19,7 +19,7 @@ use Rattle.od_session.specs.declared.object.TheConstants.{SESSION_ROUNDS, SESSIO
 use Rattle.od_session.specs.Parts.{head_of, has_session, session_of, has_doc, is_full, size_of, is_known, phase_with, round_at}
 use Rattle.od_model.specs.Object.Effects.{doc_made, found_of, opened, stepped, taken_by, let_go}
 use Rattle.od_model.specs.Object.Replies.{held, reply_headed, reply_read, reply_step, reply_phase, reply_round, reply_resume, reply_unheld, reply_release}
-use Rattle.od_running.specs.Running.{Running}
+use Rattle.od_rounds.specs.Running.{Running}
 use Rattle.od_document.proofs.Existence.{Reads-document_of}
 use Rattle.od_workspace.specs.declared.workspace.change.Change.TheVariants.{Nothing, Document, Opening, Round, Holder}
 use Rattle.od_workspace.specs.Workspaces.Changes.{ChangesAt, IsAnswer}

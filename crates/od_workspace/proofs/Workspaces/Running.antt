@@ -1,5 +1,5 @@
 -- What a session that runs tells of its state, and what stays of that.
-use Rattle.std.proofs.Common.{◌≡◌, ℕ, ◌+◌, ◌≤◌, List, [], ◌∷◌, ◌++◌, length, take, filter, flat_map, Option, Some, refl, sym, ap, ◌∙◌, subst, arith, take_all, length-take, length-append}
+use Rattle.std.proofs.Common.{◌≡◌, ◌≢◌, ℕ, ◌+◌, ◌≤◌, ◌<◌, List, [], ◌∷◌, ◌++◌, length, take, filter, flat_map, Option, Some, refl, sym, ap, ◌∙◌, subst, arith, take_all, length-take, length-append}
 use Rattle.std.specs.List.{enumerate_from}
 use Rattle.std.proofs.lemmas.List.{length_push, take-append-le}
 use Rattle.od_document.specs.declared.doc.Doc.{Doc}
@@ -23,7 +23,7 @@ use Rattle.od_model.proofs.Histories.Sound.{grammar-is, going-below}
 use Rattle.od_pattern.specs.declared.grammar.Grammar.{Grammar}
 use Rattle.od_pattern.specs.declared.grammar.Head.{Head}
 use Rattle.od_pattern.specs.declared.rule.Rule.{Rule}
-use Rattle.od_running.specs.Running.{Running}
+use Rattle.od_rounds.specs.Running.{Running}
 use Rattle.od_session.specs.declared.object.SessionState.{SessionState}
 use Rattle.od_session.specs.declared.object.TheConstants.{SESSION_ROUNDS}
 use Rattle.od_session.specs.Grammars.{grammar_of}
@@ -89,6 +89,15 @@ module _ (docs : List Doc) (s : SessionState) (r : Running) (h : IsRunning docs 
     where
       same-rules : round (take s.documents docs) g (length s.rounds + 1) (joined s.rounds) ≡ round_at docs s
       same-rules = by-rules (sites (take s.documents docs)) g (grammar_at s) (length s.rounds + 1) (joined s.rounds) (is ∙ sym h.rules_are ∙ ap (λ (x : Grammar). x.rules) (sym same-grammar))
+
+  -- where it goes on, there is room for one round more
+  pub room-told : phase_with s s.rounds ≡ Going → r.at.rounds < r.limit
+  room-told going =
+      let few = h.few in
+      let apart : length s.rounds ≢ s.limit = going-below (greatest_first (grammar_at s).rules) s.limit s.rounds going in
+      let count : r.at.rounds ≡ length s.rounds = ap (λ a. a.rounds) h.stands in
+      let limit = h.limit_is in
+      omega (arith, few, apart, count, limit)
 
   -- its mentions are those of the state
   pub known-told : r.at.known ≡ joined s.rounds

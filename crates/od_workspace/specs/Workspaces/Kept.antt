@@ -6,7 +6,7 @@ use Rattle.od_session.specs.declared.object.SessionState.{SessionState}
 use Rattle.od_session.specs.declared.object.TheConstants.{ALL_DOCUMENTS, ALL_BYTES, SESSIONS}
 use Rattle.od_session.specs.Parts.{size_of, sentence_count, Distinct}
 use Rattle.od_index.specs.Segments.{Stored, StandsFor}
-use Rattle.od_running.specs.Running.{Running}
+use Rattle.od_rounds.specs.Running.{Running}
 use Rattle.od_workspace.specs.Workspaces.Sessions.{IsRunning}
 
 -- the names of the documents and of the sessions stand in their order; the bytes and the sentences are counted

@@ -7,7 +7,7 @@ use Rattle.od_extraction.specs.Weight.{weight, most_weight}
 use Rattle.od_index.specs.Segments.{Tiles}
 use Rattle.od_matching.specs.Rounds.Standing.{standing}
 use Rattle.od_pattern.specs.declared.grammar.Grammar.{Grammar}
-use Rattle.od_running.specs.Running.{Running}
+use Rattle.od_rounds.specs.Running.{Running}
 use Rattle.od_session.specs.declared.object.SessionState.{SessionState}
 use Rattle.od_session.specs.declared.object.TheConstants.{SESSION_ROUNDS}
 use Rattle.od_session.specs.Grammars.{grammar_of}

@@ -4,7 +4,7 @@ ghost use Rattle.std.specs.Prelude.{◌≡◌};
 use od_command::history::{Refusal, Reply};
 use od_document::doc::Doc;
 use od_mentions::State;
-use od_running::Session;
+use od_rounds::Session;
 use od_session::object::SessionState;
 
 /// A change of the documents and sessions.

@@ -1,9 +1,14 @@
 -- A session that goes on stands beside its state.
-use Rattle.od_workspace.proofs.Workspaces.Running.{found-told, runs-on}
+use Rattle.od_workspace.proofs.Workspaces.Running.{found-told, room-told, runs-on}
 use Rattle.od_workspace.proofs.workspace.go_on.Goals as goal
 
-pub add-requires : goal.add-requires
-add-requires c =
+pub add-requires-clause-room : goal.add-requires-clause-room
+add-requires-clause-room c =
+    let (docs, runs, next) = c.requires.runs in
+    room-told docs c.args.state.now c.args.running.now runs next.0
+
+pub add-requires-clause-next : goal.add-requires-clause-next
+add-requires-clause-next c =
     let (docs, runs, next) = c.requires.runs in
     (runs.grammar, runs.rules_are, found-told docs c.args.state.now c.args.running.now runs c.args.added next.1)
 
