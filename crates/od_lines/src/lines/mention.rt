@@ -77,7 +77,7 @@ fn add_mentions<L: Ledger>(
 }
 
 /// The output with the line of a mention, where its document is there.
-#[tactic(auto, unfolding(od_command::specs::Lines::Mentions::mention_line))]
+#[tactic(auto, unfolding(od_line::specs::Mentions::mention_line))]
 fn add_mention<L: Ledger>(
     out: Vec<u8>,
     alloc: Global,
