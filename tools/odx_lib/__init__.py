@@ -1,0 +1,1 @@
+"""What `odx` is made of: a module for each of its words, and what they share."""
