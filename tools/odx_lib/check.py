@@ -26,8 +26,8 @@ class Warnings:
     def say(self, rule, placed, at, text):
         line = placed.place(at)[0] if placed else rule.line
         front = "the query" if self.grammar.is_query else f"{place(self.grammar.path, line)}: rule {rule.name}"
-        if (front, text) not in self.seen:
-            self.seen.add((front, text))
+        if (rule.name, text) not in self.seen:
+            self.seen.add((rule.name, text))
             self.found.append((line, f"{front}: warning: {text}"))
 
     def lines(self):

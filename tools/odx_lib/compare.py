@@ -32,7 +32,7 @@ def read(path, spans, labels):
         if place_key:
             places[place_key] += 1
         texts[text_key] += 1
-    return places if form != "list" else None, texts
+    return places if form == "json" else None, texts
 
 
 def of_json(path):

@@ -350,8 +350,10 @@ def expected_hint(rule, front, rest, line):
         return "an expression has no flags behind it: write (?i) at its beginning, as in /(?i)acme/"
     if rest.startswith("$"):
         return "a value with $ stands between quotes: [tag='PRP$']"
+    if rest.startswith("!="):
+        return "not equal is [!lemma=a]"
     if rest.startswith("="):
-        return "not equal is [!lemma=a]" if last == "!" else "one = between field and value"
+        return "one = between field and value"
     if rest[:1] in "&|" and last == rest[:1]:
         return f"one {rest[:1]} and not two"
     if rest.startswith("|"):

@@ -146,7 +146,7 @@ class Why:
             shown += 1
             argument = mention["arguments"][-1]
             here = [x for x in at[mention["document"], mention["sentence"]] if x[0] < argument["end"] and argument["start"] < x[1]]
-            what = f"it is a {label} from round {min(x[2] for x in here)} on: is the priority too early?" if here else f"it is no {label}"
+            what = f"{label} holds it from round {min(x[2] for x in here)} on: does the rule run too early?" if here else f"no mention of {label} holds it"
             print(f"{'':14}{self.where(mention)}: from {mention['text']} it reaches {argument['text']}; {what}")
 
     def path(self, front, name, path, triggers, having):
