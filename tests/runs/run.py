@@ -2,7 +2,8 @@
 """Runs the program on the scripts of this folder, and compares what it writes and its status with what is stored beside them.
 
 A folder has the script (stdin) and the output (stdout), and where they are not empty and not 0 the diagnostic (stderr) and the
-exit status (status). The scripts of faults.py have a fault each, with the line that tells it.
+exit status (status). The scripts of faults.py have a fault each, with the line that tells it. The folders of cookbook are the
+recipes of docs/COOKBOOK.md, which is compared with them.
 
 Build the program first, from the top of the repository: (cd crates/odinson_cli && rt run -- serve < stdin)
 """
@@ -10,6 +11,7 @@ import os
 import subprocess
 import sys
 
+import cookbook
 import faults
 
 HERE = os.path.dirname(os.path.abspath(__file__))
@@ -54,6 +56,10 @@ def main():
             if line != expected:
                 print(f"  wrote    {line[:300]!r}\n  expected {expected[:300]!r}")
                 break
+    for name, wrong in cookbook.tried(program):
+        passed, failed = passed + (wrong is None), failed + (wrong is not None)
+        if wrong:
+            print(f"cookbook {name}: {wrong}")
     print(f"{passed} passed, {failed} failed")
     sys.exit(1 if failed else 0)
 
