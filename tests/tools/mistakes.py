@@ -114,6 +114,7 @@ ALL = [
     query("a word with an apostrophe", "'s", "between double quotes: \"'s\""),
     query("not equal", "[lemma!=acquire]", "[!lemma=a]"),
     query("two signs for and", "[lemma=a && tag=b]", "one & and not two"),
+    query("a word within a look", "(?<!not) acquired", "a look holds one constraint"),
     query("a field of another tool", "[xpos=NN]", "for xpos take tag"),
     query("a field in capitals", "[Lemma=a]", "for Lemma take lemma"),
     rules("an event as a basic rule", "type: event", "type: basic", "AT:16:", "type says basic"),

@@ -350,6 +350,8 @@ def expected_hint(rule, front, rest, line):
         return "an expression has no flags behind it: write (?i) at its beginning, as in /(?i)acme/"
     if rest.startswith("$"):
         return "a value with $ stands between quotes: [tag='PRP$']"
+    if re.search(r"\(\?<?[=!]\s*$", front):
+        return "a look holds one constraint: (?<![lemma=not]), (?=[upos=VERB])"
     if rest.startswith("!="):
         return "not equal is [!lemma=a]"
     if rest.startswith("="):
