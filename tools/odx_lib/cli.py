@@ -30,13 +30,13 @@ class Parser(argparse.ArgumentParser):
 
 
 def rounds(text):
-    if not text.isdigit() or not 1 <= int(text) <= script.MOST_ROUNDS:
+    if not conllu.is_number(text) or not 1 <= int(text) <= script.MOST_ROUNDS:
         raise argparse.ArgumentTypeError(f"a session has 1 to {script.MOST_ROUNDS} rounds, and not {text}")
     return int(text)
 
 
 def number(text):
-    if not text.isdigit() or int(text) < 1 or int(text) > 10000:
+    if not conllu.is_number(text) or int(text) < 1 or int(text) > 10000:
         raise argparse.ArgumentTypeError(f"this is a number from 1 to 10000, and not {text}")
     return int(text)
 

@@ -3,7 +3,7 @@ import collections
 import csv
 import re
 
-from . import answers
+from . import answers, conllu
 from .told import Told, of
 
 
@@ -125,7 +125,7 @@ def without_document(bag):
 
 
 def listed(what, bag, most):
-    rows = sorted(bag.elements(), key=lambda item: (item[0], int(item[1]) if item[1].isdigit() else 0, item[2:]))
+    rows = sorted(bag.elements(), key=lambda item: (item[0], int(item[1]) if conllu.is_number(item[1]) else 0, item[2:]))
     if rows:
         print(f"{what}: {of(len(rows), 'mention')}")
     for item in rows[:most]:

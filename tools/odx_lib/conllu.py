@@ -118,6 +118,10 @@ def all_pieces(paths):
         yield from pieces(path, names)
 
 
+def is_number(text):
+    return text.isascii() and text.isdigit()
+
+
 class Token:
     """A word of a sentence: its columns, the line of its file, and where it stands in the sentence's text."""
 
@@ -137,7 +141,7 @@ class Token:
     def head(self):
         """The number of its head from 0, or -1."""
         value = self.columns[6]
-        return int(value) - 1 if value.isdigit() else -1
+        return int(value) - 1 if is_number(value) else -1
 
     def misc(self, key):
         """The value of the first item of MISC with the key, or None."""
@@ -198,16 +202,12 @@ def parsed(lines, first_line):
         columns = text.split("\t")
         if len(columns) != 10:
             continue
-        if columns[0].isdigit():
+        if is_number(columns[0]):
             tokens.append(Token(columns, first_line + number))
-        elif re.fullmatch(r"\d+-\d+", columns[0]):
+        elif re.fullmatch(r"[0-9]+-[0-9]+", columns[0]):
             begin, end = columns[0].split("-")
             ranges[int(begin) - 1] = (int(end) - 1, columns[1], columns[9])
     return Sentence(tokens, sent_id, first_line, ranges) if tokens else None
-
-
-def has_word(lines):
-    return any(raw[:1].isdigit() and raw.split(b"\t", 1)[0].isdigit() for raw in lines)
 
 
 def all_sentences(paths):
@@ -278,7 +278,7 @@ class Texts:
             if raw in (b"\n", b"\r\n"):
                 break
             rows.append(raw)
-        sentence = parsed(rows, lines[number])
+        sentence = parsed(rows, lines[number]) or Sentence([], None, lines[number], {})
         self.recent[key] = sentence
         if len(self.recent) > self.KEPT:
             self.recent.popitem(last=False)

@@ -37,7 +37,7 @@ class Rows:
                 raise Told(f"{place(path, first_line + number)}: these bytes are not UTF-8; save the file as UTF-8")
             if len(columns) != 10:
                 raise Told(f"{place(path, first_line + number)}: the line has {of(len(columns), 'column')} between tabs, and must have 10")
-            if columns[0].isdigit():
+            if conllu.is_number(columns[0]):
                 self.words[columns[0]] = (number, columns)
 
     def under(self, number, *relations):

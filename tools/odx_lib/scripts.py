@@ -105,7 +105,7 @@ def of_order(path, number, text, opened, run):
         return [f"{place(path, number)}: blanks stand before or behind the order `{text.strip()}`"]
     if words[0] == "open" and len(words) == 4:
         opened.append(words[1])
-        if not words[3].isdigit() or not 1 <= int(words[3]) <= 100:
+        if not re.fullmatch(r"[0-9]{1,9}", words[3]) or not 1 <= int(words[3]) <= 100:
             return [f"{place(path, number)}: a session has 1 to 100 rounds, and this one {words[3]}"]
     elif words[0] in ("run", "step"):
         run.add(words[-1])
