@@ -1,0 +1,4 @@
+-- The lemmas of this crate.
+pub mod Found
+pub mod Noting
+pub mod Facts
