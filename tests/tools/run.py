@@ -20,6 +20,7 @@ BUILT = os.path.join(TOP, "crates", "odinson_cli", "out", "odinson_cli")
 sys.path.insert(0, HERE)
 
 import mistakes  # noqa: E402
+import mutated  # noqa: E402
 
 RULES, TEXT = mistakes.RULES, mistakes.TEXT
 
@@ -280,6 +281,10 @@ def test_wrong_words_and_files_are_told(folder):
         equal(tried.status, status, f"{name}: the status")
 
 
+def test_mutated_files_bring_about_no_traceback(folder):
+    mutated.tried(folder, 40, 7)
+
+
 def test_each_word_has_help(folder):
     for word in ("script", "run", "show", "check", "why", "enrich", "compare"):
         tried = odx(word, "--help")
@@ -291,7 +296,7 @@ def program():
     return path if os.path.isfile(path) and os.access(path, os.X_OK) else None
 
 
-ALONE = {test_each_word_has_help, test_enrich_writes_columns_that_are_read}
+ALONE = {test_each_word_has_help, test_enrich_writes_columns_that_are_read, test_mutated_files_bring_about_no_traceback}
 
 
 def tests():
