@@ -160,7 +160,7 @@ def entity_key(out):
             placed = out.grammar.expanded(rule)
             asks = [x for x in patterns.asked(placed.text, rule.is_event) if x.field == field]
             if asks and not known:
-                others = list(out.words.values("misc"))
+                others = [x for x in out.words.values("misc") if not x.startswith("Space")]
                 more = f"; MISC has {', '.join(sorted(others)[:6])}: `odx enrich --rename KEY={key}` writes it" if others else ""
                 out.say(rule, placed, asks[0].at, f"no token of the texts has {key}= in MISC{more}")
             for ask in asks:

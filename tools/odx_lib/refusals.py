@@ -421,7 +421,8 @@ def session_lines(entry, grammars):
             "  take more and smaller scripts (--shards N), or a rule that finds less",
         ]
     if reply == "Crowded":
-        grammar = grammars[0]
+        number = re.fullmatch(r"s([0-9]+)", entry.get("name", ""))
+        grammar = grammars[int(number.group(1)) - 1 if number and int(number.group(1)) <= len(grammars) else 0]
         rule = grammar.rule(entry.get("rule", 1))
         what = f"rule {rule.name}" if rule else "a rule"
         return [head_line(grammar, rule.line if rule else 1, f"{what} finds more than 10,000 on one sentence (document number {entry.get('document')}, sentence {entry.get('sentence')})")]
