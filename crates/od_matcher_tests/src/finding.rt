@@ -1,7 +1,7 @@
 //! What the first rule of a grammar finds in a document. A mention is written as its span, and
 //! behind it each of its parts with its name; a bar stands between two sentences. Of more than 50
 //! mentions of a sentence their number is written.
-ghost use Rattle.std.specs.Prelude.{◌≡◌, ◌∷◌, List as Seq, IfSome, ◌×◌};
+ghost use Rattle.std.specs.Prelude.{◌≡◌, ◌∷◌, List as Seq, IfSome};
 ghost use Rattle.std.specs.Arc.{arc_value};
 ghost use Rattle.od_asked.specs.Asked.{asked_rule};
 ghost use Rattle.od_asked.specs.Expressions.{expressions_of};

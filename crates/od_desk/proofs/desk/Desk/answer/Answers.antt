@@ -25,10 +25,10 @@ invariant_of-self-in-Ok g c =
     let pushed : c.push_reserved.new.self.items ≡ s.history.items ++ e ∷ [] = c.push_reserved.ensures.items ∙ ap (λ l. l ++ e ∷ []) c.in_ok-reserve.ensures.items in
     let whole : s.cut ≡ false = rw (← c.self.view_is) at c.requires.whole in
     let numbered : c.args.call ≡ length (mine c.args.caller s.history.items) + 1 = rw (← c.self.view_is) at c.requires.call in
-    let after : c.change.new.self ≡ effect s.heads s.workspace e = c.in_ok-change.ensures.ok ∙ sym answer.effect in
+    let after : c.change-2.new.self ≡ effect s.heads s.workspace e = c.in_ok-change.ensures.ok ∙ sym answer.effect in
     let sink : Taken = taken (g.W.Sink.written c.write_whole.new.sink) (g.W.Sink.faults c.write_whole.new.sink) in
     let appends : Appends (g.W.Sink.written s.sink) (g.W.Sink.written c.write_whole.new.sink) (entry_lines s.workspace e) = rw (sym c.in_ok-lines.ensures, sym c.get.ensures) c.in-Ok.ensures.whole in
-    rw (pushed, c.in_ok-answer.ensures.same) (answered d e c.change.new.self sink c.self.invariant whole answer.replies numbered after appends c.write_whole.ensures.later)
+    rw (pushed, c.in_ok-answer.ensures.same) (answered d e c.change-2.new.self sink c.self.invariant whole answer.replies numbered after appends c.write_whole.ensures.later)
 
 pub returns-in-Ok-clause-desk : goal.returns-in-Ok-clause-desk
 returns-in-Ok-clause-desk g c = invariant_of-self-in-Ok g c
@@ -45,9 +45,9 @@ returns-in-Ok-clause-climbs g c name is goes =
     } in
     let e : Entry = record { caller = c.args.caller; call = c.args.call; command = c.args.command; reply = c.in_ok-answer.answer.reply } in
     let answer = c.in_ok-answer.ensures.answer in
-    let after : c.change.new.self ≡ effect s.heads s.workspace e = c.in_ok-change.ensures.ok ∙ sym answer.effect in
+    let after : c.change-2.new.self ≡ effect s.heads s.workspace e = c.in_ok-change.ensures.ok ∙ sym answer.effect in
     let sink : Taken = taken (g.W.Sink.written c.write_whole.new.sink) (g.W.Sink.faults c.write_whole.new.sink) in
-    rw (← c.self.view_is) (climbing d e c.change.new.self c.push_reserved.new.self.items sink s.cut name c.self.invariant answer.replies after (rw (c.in_ok-answer.ensures.same) at (invariant_of-self-in-Ok g c)) is (c.goes_on-goes.ensures.0 goes))
+    rw (← c.self.view_is) (climbing d e c.change-2.new.self c.push_reserved.new.self.items sink s.cut name c.self.invariant answer.replies after (rw (c.in_ok-answer.ensures.same) at (invariant_of-self-in-Ok g c)) is (c.goes_on-goes.ensures.0 goes))
 
 pub invariant_of-self-in-Err : goal.invariant_of-self-in-Err
 invariant_of-self-in-Err g c =
@@ -64,10 +64,10 @@ invariant_of-self-in-Err g c =
     let pushed : c.push_reserved.new.self.items ≡ s.history.items ++ e ∷ [] = c.push_reserved.ensures.items ∙ ap (λ l. l ++ e ∷ []) c.in_ok-reserve.ensures.items in
     let whole : s.cut ≡ false = rw (← c.self.view_is) at c.requires.whole in
     let numbered : c.args.call ≡ length (mine c.args.caller s.history.items) + 1 = rw (← c.self.view_is) at c.requires.call in
-    let after : c.change.new.self ≡ effect s.heads s.workspace e = c.in_ok-change.ensures.ok ∙ sym answer.effect in
+    let after : c.change-2.new.self ≡ effect s.heads s.workspace e = c.in_ok-change.ensures.ok ∙ sym answer.effect in
     let sink : Taken = taken (g.W.Sink.written c.write_whole.new.sink) (g.W.Sink.faults c.write_whole.new.sink) in
     let part : AppendsProperPrefix (g.W.Sink.written s.sink) (g.W.Sink.written c.write_whole.new.sink) (entry_lines s.workspace e) = rw (sym c.in_ok-lines.ensures, sym c.get.ensures) c.in-Err.ensures.part in
-    rw (pushed, c.in_ok-answer.ensures.same) (cut_short d e c.change.new.self sink c.self.invariant whole answer.replies numbered after part c.write_whole.ensures.later c.in-Err.ensures.failed)
+    rw (pushed, c.in_ok-answer.ensures.same) (cut_short d e c.change-2.new.self sink c.self.invariant whole answer.replies numbered after part c.write_whole.ensures.later c.in-Err.ensures.failed)
 
 pub returns-clause-desk : goal.returns-clause-desk
 returns-clause-desk g c =
@@ -84,10 +84,10 @@ returns-clause-desk g c =
     let pushed : c.push_reserved.new.self.items ≡ s.history.items ++ e ∷ [] = c.push_reserved.ensures.items ∙ ap (λ l. l ++ e ∷ []) c.in_ok-reserve.ensures.items in
     let whole : s.cut ≡ false = rw (← c.self.view_is) at c.requires.whole in
     let numbered : c.args.call ≡ length (mine c.args.caller s.history.items) + 1 = rw (← c.self.view_is) at c.requires.call in
-    let after : c.change.new.self ≡ effect s.heads s.workspace e = c.in_ok-change.ensures.ok ∙ sym answer.effect in
+    let after : c.change-2.new.self ≡ effect s.heads s.workspace e = c.in_ok-change.ensures.ok ∙ sym answer.effect in
     let sink : Taken = taken (g.W.Sink.written c.write_whole.new.sink) (g.W.Sink.faults c.write_whole.new.sink) in
     let part : AppendsProperPrefix (g.W.Sink.written s.sink) (g.W.Sink.written c.write_whole.new.sink) (entry_lines s.workspace e) = rw (sym c.in_ok-lines.ensures, sym c.get.ensures) c.in-Err.ensures.part in
-    rw (pushed, c.in_ok-answer.ensures.same) (cut_short d e c.change.new.self sink c.self.invariant whole answer.replies numbered after part c.write_whole.ensures.later c.in-Err.ensures.failed)
+    rw (pushed, c.in_ok-answer.ensures.same) (cut_short d e c.change-2.new.self sink c.self.invariant whole answer.replies numbered after part c.write_whole.ensures.later c.in-Err.ensures.failed)
 
 pub returns-clause-part : goal.returns-clause-part
 returns-clause-part g c =
