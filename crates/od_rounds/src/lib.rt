@@ -13,6 +13,3 @@ mod visit;
 
 pub use fault::RoundFault;
 pub use session::Session;
-
-#[cfg(test)]
-mod tests;
