@@ -314,9 +314,9 @@ fn scripts_are_answered(rt: HostRuntime) -> Result<(), Fail> {
     ];
     for case in &cases {
         let ended = served(rt.alloc(), case.script)?;
-        assert_eq!(rt; ended.status, case.status, "to {:?}", case.script);
-        assert!(rt; ended.sink.written() == case.lines, "to {:?}", case.script);
-        assert!(rt; ended.diag.written() == case.said, "to {:?}", case.script);
+        assert_eq!(rt; ended.status, case.status);
+        assert!(rt; ended.sink.written() == case.lines);
+        assert!(rt; ended.diag.written() == case.said);
     }
     Ok(())
 }
